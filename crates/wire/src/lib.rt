@@ -1,0 +1,140 @@
+// Numbers, packed numbers and bits at places of a byte string.
+ghost use mathlib.Core.Path.{_≡_};
+ghost use mathlib.Core.Bool.{cond};
+ghost use Prim.Native.Nat.{_+_, _*_, _/_, _^_, _≤_, _<_};
+ghost use lib.ListN.{length};
+ghost use Rattle.format.specs.Bytes.{fieldAt, bigAt};
+ghost use Rattle.format.specs.Columns.{bit, bits, count, bitBytes};
+ghost use Rattle.format.specs.Values.{signed};
+ghost use Rattle.wire.specs.Answer.{packedAt, longAt};
+
+// A packed number and the place after it.
+pub enum Packing {
+    Value(u64, usize),
+    Malformed,
+}
+
+// Where reading ends: the place after what was read; or a refusal and its place.
+pub enum Ending {
+    At(usize),
+    Fault(u8, usize),
+}
+
+// The number in k bytes at a place, the lowest first.
+pub fn number(s: &[u8], at: usize, k: usize) -> u64
+    requires { ⌜ (k ≤ 8) × (at + k ≤ length (now s)) ⌝ }
+    ensures { λ r. ⌜ r ≡ fieldAt (now (s .entry)) at k ⌝ }
+{
+    let mut v: u64 = 0;
+    let mut i = k;
+    while 0 < i {
+        i -= 1;
+        v = v * 256 + s[at + i] as u64;
+    }
+    v
+}
+
+// The number in n bytes at a place, the highest first.
+pub fn big(s: &[u8], at: usize, n: usize) -> u64
+    requires { ⌜ at + n ≤ length (now s) ⌝ ∗ ⌜ n ≤ 8 ⌝ }
+    ensures { λ r. ⌜ r ≡ bigAt (now (s .entry)) at n ⌝ }
+{
+    let mut v: u64 = 0;
+    let mut i: usize = 0;
+    while i < n {
+        let b = s[at + i] as u64;
+        v = v * 256 + b;
+        i += 1;
+    }
+    v
+}
+
+// The signed number whose two's complement of n bytes is v.
+pub fn two_complement(v: u64, n: u64) -> i64
+    requires { ⌜ 1 ≤ n ⌝ ∗ ⌜ n ≤ 8 ⌝ ∗ ⌜ v < 2 ^ (8 * n) ⌝ }
+    ensures { λ r. ⌜ r ≡ signed n v ⌝ }
+{
+    let half = 1u64 << (8 * n - 1);
+    if v < half {
+        v as i64
+    } else {
+        let k = (half - 1) - (v - half);
+        -1 - (k as i64)
+    }
+}
+
+fn long(s: &[u8], at: usize, k: usize) -> Packing
+    requires { ⌜ (k ≤ 8) × (at ≤ length (now s)) ⌝ }
+    ensures { λ r. ⌜ r ≡ longAt (now (s .entry)) at k ⌝ }
+{
+    if k <= s.len() - at {
+        Packing::Value(number(s, at, k), at + k)
+    } else {
+        Packing::Malformed
+    }
+}
+
+// The packed number at a place (01, Table maps).
+pub fn packed(s: &[u8], at: usize) -> Packing
+    ensures { λ r. ⌜ r ≡ packedAt (now (s .entry)) at ⌝ }
+{
+    if s.len() <= at {
+        return Packing::Malformed;
+    }
+    let b = s[at];
+    let next = at + 1;
+    if b <= 250 {
+        return Packing::Value(b as u64, next);
+    }
+    if b == 252 {
+        return long(s, next, 2);
+    }
+    if b == 253 {
+        return long(s, next, 3);
+    }
+    if b == 254 {
+        return long(s, next, 8);
+    }
+    Packing::Malformed
+}
+
+// A byte as a number.
+pub fn wide(x: u8) -> u64
+    ensures { λ r. ⌜ r ≡ x ⌝ }
+{
+    x as u64
+}
+
+// Bit i of a run of bytes, from each byte's lowest.
+pub fn bit_at(s: &[u8], i: usize) -> bool
+    requires { ⌜ i / 8 < length (now s) ⌝ }
+    ensures { λ r. ⌜ r ≡ bit (now (s .entry)) i ⌝ }
+{
+    let k = i / 8;
+    let b = wide(s[k]);
+    let shift = (i % 8) as u64;
+    (b >> shift) % 2 == 1
+}
+
+// One more where a bit is set.
+pub fn one_more(j: usize, set: bool) -> usize
+    requires { ⌜ j < 2 ^ 32 ⌝ }
+    ensures { λ r. ⌜ r ≡ cond set (j + 1) j ⌝ }
+{
+    if set { j + 1 } else { j }
+}
+
+// How many of the first n bits are set.
+pub fn count_bits(s: &[u8], n: usize) -> usize
+    requires { ⌜ (n ≤ 512) × (bitBytes n ≤ length (now s)) ⌝ }
+    ensures { λ r. ⌜ r ≡ count (bits n (now (s .entry))) ⌝ }
+{
+    let mut k: usize = 0;
+    let mut i: usize = 0;
+    while i < n {
+        let set = bit_at(s, i);
+        k = one_more(k, set);
+        i += 1;
+    }
+    k
+}
