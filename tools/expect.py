@@ -6,8 +6,9 @@
     expect.py --check    says what of them is not as account.py has it
 
 The check also makes the logs of data/made anew (make_logs.py) and compares
-them, holds account.py to the answer that each was made with, and to what the
-server's own tool printed of the logs of data/real that are accepted.
+them, holds account.py to the answer that each was made with, to alike answers
+of each longer log, and to what the server's own tool printed of the logs of
+data/real that are accepted.
 """
 
 import gzip
@@ -64,6 +65,32 @@ def expected():
             for name, some in text.items()}
 
 
+def told(log):
+    """What a log's changes are, places left out."""
+    reading = account.Log(log)
+
+    def plain(part):
+        return log[part[0]:part[0] + part[1]]
+
+    def cell(k, side, column):
+        try:
+            answer = reading.value(k, side, column)
+        except account.Refused as r:
+            return (r.number, r.place)
+        if answer and answer[1] and answer[0] in (15, 252):
+            return (answer[0], plain(answer[1]))
+        return answer
+
+    changes = []
+    for k in range(len(reading.changes)):
+        answer = reading.change(k)
+        changes.append([answer[0], [n > 0 for n in answer[1:5]], answer[5:7],
+                        list(map(plain, answer[7:])),
+                        [cell(k, side, c) for side in range(3)
+                         for c in range(answer[6] + 1)]])
+    return changes
+
+
 def faults():
     make_logs.make()
     made = make_logs.LOGS
@@ -78,6 +105,10 @@ def faults():
         if account.desk(log)[0] != answer:
             yield "account.py on %s: %s, made as %s" % (
                 name, account.desk(log)[0], answer)
+    for name, (log, answer) in made.items():
+        if name.startswith("longer-") and answer.startswith("accepted"):
+            if told(log) != told(made["longer-none.log"][0]):
+                yield "%s is not answered like longer-none.log" % name
     if read(ROOT, "crates", "readlog", "stdin") != made["source-004.log"][0]:
         yield "crates/readlog/stdin is not 004's log"
     for name, text in expected().items():
