@@ -20,9 +20,10 @@ import compare
 import make_logs
 
 # What the evidence program prints of a log: "check", the first line;
-# "listing", all that readlog prints; "questions", that and every answer.
+# "listing", all that readlog prints, and Listing with other buffers;
+# "questions", that and every answer of Change and Value.
 PRINTS = "check"
-# a log longer than this is asked for its listing only
+# of a log longer than this only what readlog prints
 ASKED = 32768
 
 ROOT = os.path.dirname(os.path.dirname(os.path.abspath(__file__)))
@@ -42,12 +43,14 @@ def stored_logs():
 
 
 def lines(log):
-    desk = account.desk(log)
+    some = account.desk(log)
     if PRINTS == "check":
-        return desk[:1]
-    if PRINTS == "listing" or len(log) > ASKED:
-        return desk
-    return desk + account.question_lines(log)
+        return some[:1]
+    if len(log) <= ASKED:
+        some += account.listing_lines(log)
+        if PRINTS == "questions":
+            some += account.question_lines(log)
+    return some
 
 
 def expected():
