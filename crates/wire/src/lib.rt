@@ -8,7 +8,7 @@ ghost use Rattle.format.specs.Columns.{bit, bits, count, bitBytes};
 ghost use Rattle.format.specs.Values.{signed};
 ghost use Rattle.wire.specs.Answer.{packedAt, longAt};
 
-// A packed number and the place after it.
+// A packed number and the place after it; or one that is malformed or cut short (01, Table maps).
 pub enum Packing {
     Value(u64, usize),
     Malformed,
@@ -20,7 +20,7 @@ pub enum Ending {
     Fault(u8, usize),
 }
 
-// The number in k bytes at a place, the lowest first.
+// The number in k bytes at a place, the lowest first (01, Framing: little-endian unless said).
 pub fn number(s: &[u8], at: usize, k: usize) -> u64
     requires { ⌜ (k ≤ 8) × (at + k ≤ length (now s)) ⌝ }
     ensures { λ r. ⌜ r ≡ fieldAt (now (s .entry)) at k ⌝ }
@@ -34,7 +34,7 @@ pub fn number(s: &[u8], at: usize, k: usize) -> u64
     v
 }
 
-// The number in n bytes at a place, the highest first.
+// The number in n bytes at a place, the highest first (01, Columns: 17, 18, 19 are big-endian).
 pub fn big(s: &[u8], at: usize, n: usize) -> u64
     requires { ⌜ at + n ≤ length (now s) ⌝ ∗ ⌜ n ≤ 8 ⌝ }
     ensures { λ r. ⌜ r ≡ bigAt (now (s .entry)) at n ⌝ }
@@ -49,7 +49,7 @@ pub fn big(s: &[u8], at: usize, n: usize) -> u64
     v
 }
 
-// The signed number whose two's complement of n bytes is v.
+// The signed number whose two's complement of n bytes is v (01, Columns: signed integer of 1, 2, 3, 4, 8 bytes).
 pub fn two_complement(v: u64, n: u64) -> i64
     requires { ⌜ 1 ≤ n ⌝ ∗ ⌜ n ≤ 8 ⌝ ∗ ⌜ v < 2 ^ (8 * n) ⌝ }
     ensures { λ r. ⌜ r ≡ signed n v ⌝ }
@@ -63,6 +63,7 @@ pub fn two_complement(v: u64, n: u64) -> i64
     }
 }
 
+// The k bytes that a packed number's first byte brings, at a place (01, Table maps).
 fn long(s: &[u8], at: usize, k: usize) -> Packing
     requires { ⌜ (k ≤ 8) × (at ≤ length (now s)) ⌝ }
     ensures { λ r. ⌜ r ≡ longAt (now (s .entry)) at k ⌝ }
@@ -74,7 +75,7 @@ fn long(s: &[u8], at: usize, k: usize) -> Packing
     }
 }
 
-// The packed number at a place (01, Table maps).
+// The packed number at a place (01, Table maps): 0 to 250 is the value; 252, 253, 254 bring 2, 3, 8 more bytes; 251 and 255 are malformed.
 pub fn packed(s: &[u8], at: usize) -> Packing
     ensures { λ r. ⌜ r ≡ packedAt (now (s .entry)) at ⌝ }
 {
@@ -105,7 +106,7 @@ pub fn wide(x: u8) -> u64
     x as u64
 }
 
-// Bit i of a run of bytes, from each byte's lowest.
+// Bit i of a run of bytes (01, Rows events: bits run from each byte's lowest).
 pub fn bit_at(s: &[u8], i: usize) -> bool
     requires { ⌜ i / 8 < length (now s) ⌝ }
     ensures { λ r. ⌜ r ≡ bit (now (s .entry)) i ⌝ }
@@ -124,7 +125,7 @@ pub fn one_more(j: usize, set: bool) -> usize
     if set { j + 1 } else { j }
 }
 
-// How many of the first n bits are set.
+// How many of the first n bits are set (01, Rows events: spare bits are ignored).
 pub fn count_bits(s: &[u8], n: usize) -> usize
     requires { ⌜ (n ≤ 512) × (bitBytes n ≤ length (now s)) ⌝ }
     ensures { λ r. ⌜ r ≡ count (bits n (now (s .entry))) ⌝ }
