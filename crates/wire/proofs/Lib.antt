@@ -2,3 +2,4 @@ pub mod Laws
 pub mod Bits
 pub mod PackedAt
 pub mod PackedIs
+pub mod Differences

@@ -1,7 +1,8 @@
 // Numbers, packed numbers and bits at places of a byte string.
 ghost use mathlib.Core.Path.{_≡_};
 ghost use mathlib.Core.Bool.{cond};
-ghost use Prim.Native.Nat.{_+_, _*_, _/_, _^_, _≤_, _<_};
+ghost use Prim.Native.Nat.{_+_, _*_, _/_, _%_, _^_, _≤_, _<_};
+ghost use lib.IntN.{pos, _-ℤ_, natAbs};
 ghost use lib.ListN.{length};
 ghost use Rattle.format.specs.Bytes.{fieldAt, bigAt};
 ghost use Rattle.format.specs.Columns.{bit, bits, count, bitBytes};
@@ -138,4 +139,28 @@ pub fn count_bits(s: &[u8], n: usize) -> usize
         i += 1;
     }
     k
+}
+
+// The n bits of a number from a bit on, counted from the bottom.
+pub fn field(x: u64, from: u64, n: u64) -> u64
+    requires { ⌜ (from < 64) × (n < 64) ⌝ }
+    ensures { λ r. ⌜ r ≡ x / 2 ^ from % 2 ^ n ⌝ }
+{
+    (x >> from) & ((1u64 << n) - 1)
+}
+
+// The signed difference of two numbers.
+pub fn apart(a: u64, b: u64) -> i64
+    requires { ⌜ (a < 2 ^ 62) × (b < 2 ^ 62) ⌝ }
+    ensures { λ r. ⌜ r ≡ pos a -ℤ pos b ⌝ }
+{
+    (a as i64) - (b as i64)
+}
+
+// The absolute value.
+pub fn size_of(d: i64) -> u64
+    requires { ⌜ natAbs d < 2 ^ 63 ⌝ }
+    ensures { λ r. ⌜ r ≡ natAbs d ⌝ }
+{
+    if d < 0 { (0 - d) as u64 } else { d as u64 }
 }
