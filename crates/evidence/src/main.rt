@@ -1,6 +1,69 @@
-// Reads each log that an argument names, and prints the name and what the log is answered.
+// Reads each log that an argument names, and prints the name and what the log is answered: as the program readlog does, and of a log that
+// isn't long the answer of Listing with other buffers.
+use binlog::Checked;
 
-// The log of a file.
+// what a lent buffer holds before a listing
+const MARK: u32 = 0xa5a5a5a5;
+
+// No number past a listing of so many changes was changed.
+fn is_kept(out: &[u32], changes: usize) -> bool {
+    let mut i: usize = 0;
+    while i < out.len() {
+        if changes <= i / 5 {
+            if out[i] != MARK {
+                return false;
+            }
+        }
+        i += 1;
+    }
+    true
+}
+
+// A listing into the first numbers of a buffer that holds marks.
+fn ask_marked(log: &[u8], out: &mut [u32], room: usize) {
+    if out.len() < room {
+        return;
+    }
+    let kept = match report::print_list(log, &mut out[..room]) {
+        Checked::Accepted(_, changes) => is_kept(out, changes),
+        Checked::Refused(_, _) => is_kept(out, 0),
+    };
+    if kept {
+        io::write_all(1, b"kept\n");
+    } else {
+        io::write_all(1, b"changed\n");
+    }
+}
+
+// A listing into a buffer of so many numbers.
+fn ask_list(log: &[u8], room: usize) {
+    let mut out = [MARK; 4096];
+    io::write_all(1, b"list ");
+    io::print_decimal(1, room as u64);
+    io::write_all(1, b" ");
+    ask_marked(log, &mut out, room);
+}
+
+// How many changes a log has, 0 where it is refused.
+fn count_of(log: &[u8]) -> usize {
+    match binlog::check(log) {
+        Checked::Accepted(_, changes) => changes,
+        Checked::Refused(_, _) => 0,
+    }
+}
+
+fn ask_all(log: &[u8]) {
+    let count = count_of(log);
+    if 65_536 < count {
+        return;
+    }
+    if 0 < count {
+        ask_list(log, 5 * count - 1);
+    }
+    ask_list(log, 5 * count);
+    ask_list(log, 5 * count + 3);
+}
+
 fn print_file(path: &[u8]) {
     io::write_all(1, b"== ");
     io::write_all(1, path);
@@ -15,6 +78,9 @@ fn print_file(path: &[u8]) {
     let n = io::read_full(fd, &mut input);
     libc::close(fd);
     report::print_input(&input[..n]);
+    if n <= 32_768 {
+        ask_all(&input[..n]);
+    }
 }
 
 // The log that argument i names.
