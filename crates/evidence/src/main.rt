@@ -1,6 +1,8 @@
 // Reads each log that an argument names, and prints the name and what the log is answered: as the program readlog does, and of a log that
-// isn't long the answer of Listing with other buffers.
+// isn't long every answer of Listing, Change and Value, up to the first that is refused.
 use binlog::Checked;
+use entry::Changed;
+use entry::Valued;
 
 // what a lent buffer holds before a listing
 const MARK: u32 = 0xa5a5a5a5;
@@ -44,6 +46,47 @@ fn ask_list(log: &[u8], room: usize) {
     ask_marked(log, &mut out, room);
 }
 
+// Whether change k, side and column was answered.
+fn ask_value(log: &[u8], k: usize, side: usize, column: usize) -> bool {
+    io::write_all(1, b"value ");
+    io::print_decimal(1, k as u64);
+    io::write_all(1, b" ");
+    io::print_decimal(1, side as u64);
+    io::write_all(1, b" ");
+    io::print_decimal(1, column as u64);
+    io::write_all(1, b" ");
+    match report::print_value(log, k, side, column) {
+        Valued::Refused(_, _) => false,
+        _ => true,
+    }
+}
+
+// The columns of a side, one more than a table can have.
+fn ask_side(log: &[u8], k: usize, side: usize) {
+    let mut column: usize = 0;
+    while column < 513 {
+        if !ask_value(log, k, side, column) {
+            return;
+        }
+        column += 1;
+    }
+}
+
+// Whether change k was answered.
+fn ask_change(log: &[u8], k: usize) -> bool {
+    io::write_all(1, b"change ");
+    io::print_decimal(1, k as u64);
+    io::write_all(1, b" ");
+    let is_answered = match report::print_change(log, k) {
+        Changed::Refused(_, _) => false,
+        Changed::Change(_) => true,
+    };
+    ask_side(log, k, 0);
+    ask_side(log, k, 1);
+    ask_side(log, k, 2);
+    is_answered
+}
+
 // How many changes a log has, 0 where it is refused.
 fn count_of(log: &[u8]) -> usize {
     match binlog::check(log) {
@@ -62,6 +105,13 @@ fn ask_all(log: &[u8]) {
     }
     ask_list(log, 5 * count);
     ask_list(log, 5 * count + 3);
+    let mut k: usize = 0;
+    while k <= count {
+        if !ask_change(log, k) {
+            return;
+        }
+        k += 1;
+    }
 }
 
 fn print_file(path: &[u8]) {
