@@ -22,7 +22,7 @@ import make_logs
 # What the evidence program prints of a log: "check", the first line;
 # "listing", all that readlog prints, and Listing with other buffers;
 # "questions", that and every answer of Change and Value.
-PRINTS = "check"
+PRINTS = "questions"
 # of a log longer than this only what readlog prints
 ASKED = 32768
 
