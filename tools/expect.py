@@ -19,10 +19,6 @@ import account
 import compare
 import make_logs
 
-# What the evidence program prints of a log: "check", the first line;
-# "listing", all that readlog prints, and Listing with other buffers;
-# "questions", that and every answer of Change and Value.
-PRINTS = "questions"
 # of a log longer than this only what readlog prints
 ASKED = 32768
 
@@ -43,13 +39,10 @@ def stored_logs():
 
 
 def lines(log):
-    some = account.desk(log)
-    if PRINTS == "check":
-        return some[:1]
+    """What readlog prints, Listing with other buffers, and every answer."""
+    some = account.printed(log)
     if len(log) <= ASKED:
-        some += account.listing_lines(log)
-        if PRINTS == "questions":
-            some += account.question_lines(log)
+        some += account.listing_lines(log) + account.question_lines(log)
     return some
 
 
@@ -59,11 +52,9 @@ def expected():
     out = []
     for name in names:
         out += ["== " + name] + lines(read(DATA, name))
-    desk = account.desk(read(ROOT, "crates", "readlog", "stdin"))
-    if PRINTS == "check":
-        desk = desk[:1]
+    program = account.printed(read(ROOT, "crates", "readlog", "stdin"))
     text = {"crates/evidence/args": names, "crates/evidence/stdout": out,
-            "crates/readlog/stdout": desk}
+            "crates/readlog/stdout": program}
     return {name: "".join(line + "\n" for line in some).encode()
             for name, some in text.items()}
 
@@ -105,9 +96,9 @@ def faults():
                 yield "data/made/%s is not as make_logs.py makes it" % name
         except OSError:
             yield "data/made/%s is missing" % name
-        if account.desk(log)[0] != answer:
+        if account.printed(log)[0] != answer:
             yield "account.py on %s: %s, made as %s" % (
-                name, account.desk(log)[0], answer)
+                name, account.printed(log)[0], answer)
     for name, (log, answer) in made.items():
         if name.startswith("longer-") and answer.startswith("accepted"):
             if told(log) != told(made["longer-none.log"][0]):
@@ -119,7 +110,7 @@ def faults():
             yield "%s is not as account.py has it" % name
     for name in sorted(os.listdir(os.path.join(DATA, "real"))):
         log = read(DATA, "real", name)
-        if account.desk(log)[0].startswith("accepted"):
+        if account.printed(log)[0].startswith("accepted"):
             text = read(EVIDENCE, "mysqlbinlog", name + ".txt.gz")
             try:
                 compare.compare(log, gzip.decompress(text))

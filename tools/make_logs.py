@@ -1050,8 +1050,8 @@ def longer():
 
 
 def sizes():
-    """At the desk's limit of 65,536 bytes, and one byte more."""
-    for size, name in ((65536, "desk-65536"), (65537, "desk-65537")):
+    """At the program's limit of 65,536 bytes, and one byte more."""
+    for size, name in ((65536, "size-65536"), (65537, "size-65537")):
         log = Log()
         log.add(3, bytes(size - log.at - 23))
         keep(name + ".log", log,
