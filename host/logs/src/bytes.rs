@@ -2,7 +2,7 @@
 
 use crate::print::{Made, Marks};
 use crate::rng::Rng;
-use crate::truth::{Counts, Refusal};
+use crate::truth::{Change, Counts, Refusal};
 
 /// A log's first `length` bytes and what they must answer.
 pub struct Cut {
@@ -16,7 +16,7 @@ pub fn cuts(made: &Made) -> Vec<Cut> {
 }
 
 fn cut(made: &Made, length: usize) -> Result<Counts, Refusal> {
-    let refused = |number, place: usize| Err(Refusal { number, place: place as u64 });
+    let refused = |number, place| Err(Refusal { number, place });
     match length {
         0..=3 => return refused(2, 0),
         4 => return refused(3, 4),
@@ -26,24 +26,24 @@ fn cut(made: &Made, length: usize) -> Result<Counts, Refusal> {
         let event = made.starts.iter().rev().find(|start| **start < length);
         return refused(4, event.copied().unwrap_or(4));
     }
-    let before = |place: u64| place < length as u64;
+    let before = |start: &&usize| **start < length;
+    let change = |it: &&Change| (it.head.listing[1] as usize) < length;
     Ok(Counts {
-        events: made.starts.iter().filter(|start| before(**start as u64)).count() as u64,
-        changes: made.truth.changes.iter().filter(|it| before(u64::from(it.listing[1]))).count()
-            as u64,
+        events: made.starts.iter().filter(before).count(),
+        changes: made.truth.changes.iter().filter(change).count(),
     })
 }
 
 /// What a log must answer if its byte `at` is any other: the places and
 /// numbers that are possible, or `None` where that hangs on the byte. A
 /// checksum catches every single byte, at the latest.
-pub fn changed_bytes(made: &Made, at: usize) -> Option<(u64, &'static [u32])> {
+pub fn changed_bytes(made: &Made, at: usize) -> Option<(usize, &'static [u32])> {
     let event = made.starts.iter().rev().find(|start| **start <= at);
     match event {
         None => Some((0, &[2])),
         Some(4) => Some((4, &[3, 4, 6, 7, 8, 9])),
         Some(start) if made.tree.description.kind == 1 => {
-            Some((*start as u64, &[4, 5, 8, 9, 10]))
+            Some((*start, &[4, 5, 8, 9, 10]))
         }
         Some(_) => None,
     }

@@ -60,7 +60,7 @@ pub fn damage(rng: &mut Rng, made: &Made, number: u32) -> Option<Damaged> {
         spoil(rng, &mut draft, fault.sheet + 1);
     }
     let (bytes, starts) = draft.assemble();
-    let place = (starts.get(fault.sheet)? + fault.offset) as u64;
+    let place = starts.get(fault.sheet)? + fault.offset;
     Some(Damaged { bytes, expected: Refusal { number, place } })
 }
 
@@ -78,7 +78,7 @@ pub fn unmarked(rng: &mut Rng, made: &Made) -> Damaged {
         let junk = rng.length(60);
         bytes.extend(rng.bytes(junk));
     }
-    Damaged { bytes, expected: Refusal { number: 11, place: start as u64 } }
+    Damaged { bytes, expected: Refusal { number: 11, place: start } }
 }
 
 /// An event with a random body.
@@ -117,7 +117,7 @@ fn cut(rng: &mut Rng, made: &Made) -> Damaged {
     let any = rng.range(1, whole - 1);
     let keep = rng.pick(&[1, 18, 19, whole - 1, any]).min(whole - 1);
     let bytes = made.bytes[..start + keep].to_vec();
-    Damaged { bytes, expected: Refusal { number: 4, place: start as u64 } }
+    Damaged { bytes, expected: Refusal { number: 4, place: start } }
 }
 
 fn first_event(rng: &mut Rng, draft: &mut Draft) -> Option<Fault> {

@@ -25,5 +25,5 @@ pub use rng::Rng;
 pub use tree::{
     Bits, Body, Cell, Column, Description, Event, Form, Image, Log, Map, Part, Rows, Value,
 };
-pub use truth::{Change, Counts, Refusal, Truth};
+pub use truth::{Change, Counts, Head, Refusal, Truth};
 pub use valid::{valid, Shape};

@@ -10,7 +10,7 @@ use crate::valid::{event, unknown_type};
 pub struct Longer {
     pub made: Made,
     /// Whole events that were put in.
-    pub added: u64,
+    pub added: usize,
     /// Old places of events, maps, images and of nothing, with the new ones.
     pub places: BTreeMap<u32, u32>,
 }
@@ -36,7 +36,7 @@ pub fn longer(seed: u64, old: &Made) -> Longer {
         tree.description.entries.extend(rng.bytes(count));
     }
     let kept = if rng.once_in(2) { add_events(&mut rng, &mut tree) } else { all(&tree) };
-    let added = (tree.events.len() - kept.len()) as u64;
+    let added = tree.events.len() - kept.len();
     let made = made(tree);
     let places = places(old, &made, &kept);
     Longer { made, added, places }

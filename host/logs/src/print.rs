@@ -5,7 +5,7 @@ use std::ops::Range;
 
 use crate::crc::crc32;
 use crate::tree::{Bits, Body, Cell, Description, Event, Form, Image, Log, Map, Part, Rows, Value};
-use crate::truth::{Change, Counts, Truth};
+use crate::truth::{Change, Counts, Head, Truth};
 
 /// A printed log, what it was printed from and what it holds.
 #[derive(Clone)]
@@ -259,7 +259,7 @@ fn truth(tree: &Log, draft: &Draft, starts: &[usize]) -> Truth {
             changes.extend(rows_truth(tree, draft, starts, at, event.kind, rows));
         }
     }
-    let counts = Counts { events: starts.len() as u64, changes: changes.len() as u64 };
+    let counts = Counts { events: starts.len(), changes: changes.len() };
     Truth { counts, changes }
 }
 
@@ -298,7 +298,7 @@ fn rows_truth(
             let before = if kind == 30 { None } else { sides.next() };
             let after = if kind == 32 { None } else { sides.next() };
             let place = |side: &Option<(usize, Vec<Cell>)>| side.as_ref().map_or(0, |it| it.0 as u32);
-            Change {
+            let head = Head {
                 listing: [
                     u32::from(kind),
                     start as u32,
@@ -307,12 +307,11 @@ fn rows_truth(
                     place(&after),
                 ],
                 table_id: rows.id,
-                columns: rows.columns.len() as u64,
+                columns: rows.columns.len(),
                 database: name(0, &map.database),
                 table: name(1, &map.table),
-                before: before.map(|it| it.1),
-                after: after.map(|it| it.1),
-            }
+            };
+            Change { head, sides: [before, after].map(|side| side.map(|it| it.1)) }
         })
         .collect()
 }

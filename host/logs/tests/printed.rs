@@ -114,7 +114,7 @@ fn events_of_004() {
     let made = made(log_of_004());
     assert_eq!(made.bytes[389..441], hex(UPDATE));
     assert_eq!(made.bytes[667..712], hex(DELETE));
-    let listing: Vec<[u32; 5]> = made.truth.changes.iter().map(|it| it.listing).collect();
+    let listing: Vec<[u32; 5]> = made.truth.changes.iter().map(|it| it.head.listing).collect();
     assert_eq!(listing, [[31, 389, 331, 421, 427], [32, 667, 609, 698, 0]]);
 }
 
