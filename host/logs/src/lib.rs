@@ -23,7 +23,8 @@ pub use longer::{longer, Longer};
 pub use print::{made, Made};
 pub use rng::Rng;
 pub use tree::{
-    Bits, Body, Cell, Column, Description, Event, Form, Image, Log, Map, Part, Rows, Value,
+    Bits, Body, Cell, Column, Description, Event, Form, Image, Log, Map, Part, Rows, Value, READ,
 };
 pub use truth::{Change, Counts, Head, Refusal, Truth};
-pub use valid::{valid, Shape};
+pub use valid::{valid, Shape, STEPPED};
+pub use values::KINDS;

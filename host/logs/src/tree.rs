@@ -6,6 +6,9 @@ pub struct Log {
     pub events: Vec<Event>,
 }
 
+/// The types that are read, with their least post-header lengths.
+pub const READ: [(u8, u8); 4] = [(19, 8), (30, 10), (31, 10), (32, 10)];
+
 #[derive(Clone, Debug)]
 pub struct Description {
     pub time: u32,
@@ -23,6 +26,17 @@ pub struct Description {
 }
 
 impl Description {
+    /// As 5.7 servers write it: H 19, 38 entries, checksums.
+    pub fn plain() -> Description {
+        let mut version = b"5.7.13-log".to_vec();
+        version.resize(50, 0);
+        let mut entries = vec![0; 38];
+        for (kind, length) in READ {
+            entries[usize::from(kind) - 1] = length;
+        }
+        Description { time: 0, server: 0, flags: 0, version, created: 0, header: 19, entries, kind: 1 }
+    }
+
     /// The post-header length that the list has for a type.
     pub fn entry(&self, kind: u8) -> usize {
         usize::from(kind)
@@ -62,6 +76,13 @@ pub struct Event {
     pub body: Body,
 }
 
+impl Event {
+    /// With nothing in its header beyond 19 bytes.
+    pub fn plain(kind: u8, flags: u16, body: Body) -> Event {
+        Event { time: 0, kind, server: 0, flags, more: Vec::new(), body }
+    }
+}
+
 #[derive(Clone, Debug)]
 pub enum Body {
     /// Of an event that is stepped over.
@@ -83,6 +104,24 @@ pub struct Map {
     pub metadata_form: Form,
     pub nullable: Bits,
     pub tail: Vec<u8>,
+}
+
+impl Map {
+    /// A map of some columns, all nullable, without names.
+    pub fn plain(id: u64, columns: Vec<Column>) -> Map {
+        Map {
+            id,
+            flags: 0,
+            post: Vec::new(),
+            database: Vec::new(),
+            table: Vec::new(),
+            nullable: Bits { set: columns.iter().map(|_| true).collect(), spare: 0 },
+            columns,
+            count_form: Form::None,
+            metadata_form: Form::None,
+            tail: Vec::new(),
+        }
+    }
 }
 
 /// A column's type and metadata: M, F, k, or 4 and 8 for the floats.
@@ -124,6 +163,21 @@ pub struct Rows {
 }
 
 impl Rows {
+    /// Full images that end the statement.
+    pub fn plain(id: u64, columns: Vec<Column>, rows: Vec<Vec<Image>>) -> Rows {
+        let full = Bits { set: columns.iter().map(|_| true).collect(), spare: 0xff };
+        Rows {
+            id,
+            flags: 1,
+            post: Vec::new(),
+            extra: Vec::new(),
+            columns,
+            count_form: Form::None,
+            used: rows.first().map_or(1..2, |row| 0..row.len()).map(|_| full.clone()).collect(),
+            rows,
+        }
+    }
+
     pub fn ends_statement(&self) -> bool {
         self.flags & 1 == 1
     }

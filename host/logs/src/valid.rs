@@ -2,7 +2,9 @@
 
 use crate::print::{made, Made};
 use crate::rng::Rng;
-use crate::tree::{Bits, Body, Cell, Column, Description, Event, Form, Image, Log, Map, Rows};
+use crate::tree::{
+    Bits, Body, Cell, Column, Description, Event, Form, Image, Log, Map, Rows, READ,
+};
 
 /// How large a log is to be.
 #[derive(Clone, Copy, Debug)]
@@ -39,7 +41,7 @@ impl Shape {
 }
 
 /// Types that are stepped over by name (01, Framing).
-pub(crate) const STEPPED: [u8; 9] = [2, 3, 4, 16, 28, 29, 33, 34, 35];
+pub const STEPPED: [u8; 9] = [2, 3, 4, 16, 28, 29, 33, 34, 35];
 
 /// Types that no rule names (01, Framing).
 pub(crate) fn unknown_type(rng: &mut Rng) -> u8 {
@@ -75,9 +77,9 @@ fn description(rng: &mut Rng, shape: Shape) -> Description {
     let any = rng.range(32, 255);
     let count = rng.pick(&[32, 33, 38, 40, 42, 171, 255, any]);
     let mut entries = rng.bytes(count);
-    for (kind, least) in [(19, 8), (30, 10), (31, 10), (32, 10)] {
-        if let Some(entry) = entries.get_mut(kind - 1) {
-            *entry = grown(rng, least, shape.growth);
+    for (kind, least) in READ {
+        if let Some(entry) = entries.get_mut(usize::from(kind) - 1) {
+            *entry = grown(rng, least.into(), shape.growth);
         }
     }
     Description {

@@ -2,19 +2,15 @@
 //! values of 01's table.
 
 use logs::{
-    made, Bits, Body, Cell, Column, Description, Event, Form, Image, Log, Map, Part, Rows, Value,
+    made, Body, Cell, Column, Description, Event, Form, Image, Log, Map, Part, Rows, Value,
 };
-
-fn bits(set: &[bool], spare: u8) -> Bits {
-    Bits { set: set.to_vec(), spare }
-}
 
 fn text(bytes: &[u8]) -> Value {
     Value::Text(Part { place: 0, bytes: bytes.to_vec() })
 }
 
 fn event(time: u32, kind: u8, body: Body) -> Event {
-    Event { time, kind, server: 93157, flags: 0, more: Vec::new(), body }
+    Event { time, server: 93157, ..Event::plain(kind, 0, body) }
 }
 
 /// An event of `length` bytes that is stepped over.
@@ -27,37 +23,17 @@ fn columns() -> Vec<Column> {
 }
 
 fn map() -> Event {
-    let map = Map {
-        id: 210,
-        flags: 1,
-        post: Vec::new(),
-        database: b"test".to_vec(),
-        table: b"testnull2".to_vec(),
-        columns: columns(),
-        count_form: Form::None,
-        metadata_form: Form::None,
-        nullable: bits(&[true; 3], 0),
-        tail: Vec::new(),
-    };
-    event(0, 19, Body::Map(map))
+    let (database, table) = (b"test".to_vec(), b"testnull2".to_vec());
+    event(0, 19, Body::Map(Map { flags: 1, database, table, ..Map::plain(210, columns()) }))
 }
 
 fn rows(time: u32, kind: u8, row: Vec<Image>) -> Event {
-    let rows = Rows {
-        id: 210,
-        flags: 1,
-        post: Vec::new(),
-        extra: Vec::new(),
-        columns: columns(),
-        count_form: Form::None,
-        used: row.iter().map(|_| bits(&[true; 3], 0xff)).collect(),
-        rows: vec![row],
-    };
-    event(time, kind, Body::Rows(rows))
+    event(time, kind, Body::Rows(Rows::plain(210, columns(), vec![row])))
 }
 
 fn log_of_004() -> Log {
-    let before = Image { cells: vec![Cell::Null, Cell::Stored(15, text(b"test")), Cell::Null], spare: 0xff };
+    let cells = vec![Cell::Null, Cell::Stored(15, text(b"test")), Cell::Null];
+    let before = Image { cells, spare: 0xff };
     let after = Image {
         cells: vec![
             Cell::Stored(3, Value::Integer(2)),
@@ -65,22 +41,6 @@ fn log_of_004() -> Log {
             Cell::Stored(15, text(b"test")),
         ],
         spare: 0xff,
-    };
-    let mut version = b"5.7.13-log".to_vec();
-    version.resize(50, 0);
-    let mut entries = vec![0; 38];
-    for (kind, length) in [(19, 8), (30, 10), (31, 10), (32, 10)] {
-        entries[kind - 1] = length;
-    }
-    let description = Description {
-        time: 0,
-        server: 93157,
-        flags: 0,
-        version,
-        created: 0,
-        header: 19,
-        entries,
-        kind: 1,
     };
     let events = vec![
         filler(35, 71),
@@ -95,7 +55,7 @@ fn log_of_004() -> Log {
         rows(0x58a1_0e2a, 32, vec![after]),
         filler(16, 31),
     ];
-    Log { description, events }
+    Log { description: Description { server: 93157, ..Description::plain() }, events }
 }
 
 /// As mysqlbinlog's hexdump in 004 has them, checksums included.
