@@ -21,7 +21,10 @@ fn main() -> ExitCode {
             .and_then(|log| ask::Asker::new(WALKED).compare(&log, None));
         match answer {
             Ok(Ok(truth)) => {
-                println!("{file}: accepted {} {}", truth.counts.events, truth.counts.changes)
+                println!(
+                    "{file}: accepted {} {}",
+                    truth.counts.events, truth.counts.changes
+                )
             }
             Ok(Err(refusal)) => println!("{file}: refused {} at {}", refusal.number, refusal.place),
             Err(why) => {

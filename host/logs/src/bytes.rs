@@ -12,7 +12,12 @@ pub struct Cut {
 
 /// Every cut of a log, the uncut log last.
 pub fn cuts(made: &Made) -> Vec<Cut> {
-    (0..=made.bytes.len()).map(|length| Cut { length, expected: cut(made, length) }).collect()
+    (0..=made.bytes.len())
+        .map(|length| Cut {
+            length,
+            expected: cut(made, length),
+        })
+        .collect()
 }
 
 fn cut(made: &Made, length: usize) -> Result<Counts, Refusal> {
@@ -42,9 +47,7 @@ pub fn changed_bytes(made: &Made, at: usize) -> Option<(usize, &'static [u32])> 
     match event {
         None => Some((0, &[2])),
         Some(4) => Some((4, &[3, 4, 6, 7, 8, 9])),
-        Some(start) if made.tree.description.kind == 1 => {
-            Some((*start, &[4, 5, 8, 9, 10]))
-        }
+        Some(start) if made.tree.description.kind == 1 => Some((*start, &[4, 5, 8, 9, 10])),
         Some(_) => None,
     }
 }
@@ -91,8 +94,19 @@ fn borders(marks: &Marks) -> Vec<usize> {
     match marks {
         Marks::Free => Vec::new(),
         Marks::Map(map) => {
-            let ranges = [&map.count, &map.metadata_length, &map.metadata, &map.nullable];
-            let mut all = vec![map.body, map.names[0], map.names[1], map.zeros[0], map.zeros[1]];
+            let ranges = [
+                &map.count,
+                &map.metadata_length,
+                &map.metadata,
+                &map.nullable,
+            ];
+            let mut all = vec![
+                map.body,
+                map.names[0],
+                map.names[1],
+                map.zeros[0],
+                map.zeros[1],
+            ];
             all.extend(ranges.iter().flat_map(|range| [range.start, range.end]));
             all
         }
@@ -102,7 +116,12 @@ fn borders(marks: &Marks) -> Vec<usize> {
             all.extend(rows.used.iter().map(|range| range.end));
             for image in &rows.images {
                 all.push(image.whole.start);
-                all.extend(image.values.iter().flat_map(|(_, range)| [range.start, range.end]));
+                all.extend(
+                    image
+                        .values
+                        .iter()
+                        .flat_map(|(_, range)| [range.start, range.end]),
+                );
             }
             all
         }

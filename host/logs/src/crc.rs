@@ -10,7 +10,11 @@ const fn table() -> [u32; 256] {
         let mut rest = i as u32;
         let mut bit = 0;
         while bit < 8 {
-            rest = if rest & 1 == 1 { (rest >> 1) ^ 0xedb8_8320 } else { rest >> 1 };
+            rest = if rest & 1 == 1 {
+                (rest >> 1) ^ 0xedb8_8320
+            } else {
+                rest >> 1
+            };
             bit += 1;
         }
         table[i] = rest;

@@ -5,7 +5,7 @@ use std::ops::Range;
 
 use crate::print::{put, sheet, Draft, Made, MapMarks, Marks, RowsMarks, Sheet};
 use crate::rng::Rng;
-use crate::tree::{Body, Column, Event, Form};
+use crate::tree::{Body, Column, Event, Form, READ};
 use crate::truth::Refusal;
 use crate::valid::{event, fresh_id, map, unknown_type};
 
@@ -61,7 +61,10 @@ pub fn damage(rng: &mut Rng, made: &Made, number: u32) -> Option<Damaged> {
     }
     let (bytes, starts) = draft.assemble();
     let place = starts.get(fault.sheet)? + fault.offset;
-    Some(Damaged { bytes, expected: Refusal { number, place } })
+    Some(Damaged {
+        bytes,
+        expected: Refusal { number, place },
+    })
 }
 
 /// A valid log with an unknown event that isn't marked ignorable put in, and
@@ -78,14 +81,23 @@ pub fn unmarked(rng: &mut Rng, made: &Made) -> Damaged {
         let junk = rng.length(60);
         bytes.extend(rng.bytes(junk));
     }
-    Damaged { bytes, expected: Refusal { number: 11, place: start } }
+    Damaged {
+        bytes,
+        expected: Refusal {
+            number: 11,
+            place: start,
+        },
+    }
 }
 
 /// An event with a random body.
 fn free(rng: &mut Rng, made: &Made, kind: u8, mark: u16) -> Sheet {
     let length = rng.length(30);
     let body = Body::Free(rng.bytes(length));
-    sheet(&made.tree.description, &event(rng, &made.tree.description, kind, mark, body))
+    sheet(
+        &made.tree.description,
+        &event(rng, &made.tree.description, kind, mark, body),
+    )
 }
 
 fn spoil(rng: &mut Rng, draft: &mut Draft, from: usize) {
@@ -94,7 +106,7 @@ fn spoil(rng: &mut Rng, draft: &mut Draft, from: usize) {
     let offset = rng.below(sheet.bytes.len());
     let new = rng.byte();
     put(&mut sheet.bytes, offset, &[new]);
-    sheet.sum_flip = rng.next() as u32;
+    sheet.sum_flip = rng.number() as u32;
 }
 
 fn opening(rng: &mut Rng, made: &Made) -> Damaged {
@@ -106,36 +118,54 @@ fn opening(rng: &mut Rng, made: &Made) -> Damaged {
         let at = rng.below(4);
         bytes[at] ^= flip;
     }
-    Damaged { bytes, expected: Refusal { number: 2, place: 0 } }
+    Damaged {
+        bytes,
+        expected: Refusal {
+            number: 2,
+            place: 0,
+        },
+    }
 }
 
 fn cut(rng: &mut Rng, made: &Made) -> Damaged {
     let which = rng.below(made.starts.len());
     let start = made.starts[which];
-    let end = made.starts.get(which + 1).copied().unwrap_or(made.bytes.len());
+    let end = made
+        .starts
+        .get(which + 1)
+        .copied()
+        .unwrap_or(made.bytes.len());
     let whole = end - start;
     let any = rng.range(1, whole - 1);
     let keep = rng.pick(&[1, 18, 19, whole - 1, any]).min(whole - 1);
     let bytes = made.bytes[..start + keep].to_vec();
-    Damaged { bytes, expected: Refusal { number: 4, place: start } }
+    Damaged {
+        bytes,
+        expected: Refusal {
+            number: 4,
+            place: start,
+        },
+    }
 }
 
 fn first_event(rng: &mut Rng, draft: &mut Draft) -> Option<Fault> {
     if rng.once_in(4) {
         draft.sheets.clear();
         // nothing follows the opening bytes: the place is theirs all the same
-        draft.sheets.push(Sheet::new(Vec::new(), Marks::Free, false));
+        draft
+            .sheets
+            .push(Sheet::new(Vec::new(), Marks::Free, false));
     } else {
         let flip = rng.range(1, 255) as u8;
         draft.sheets[0].bytes[4] ^= flip;
-        draft.sheets[0].sum_flip = rng.next() as u32;
+        draft.sheets[0].sum_flip = rng.number() as u32;
     }
     Fault::event(0)
 }
 
 fn past_end(rng: &mut Rng, draft: &mut Draft, made: &Made, at: usize) -> Option<Fault> {
     let left = (made.bytes.len() - made.starts[at]) as u32;
-    let far = rng.next() as u32 | 1 << 31;
+    let far = rng.number() as u32 | 1 << 31;
     draft.sheets[at].length = Some(rng.pick(&[left + 1, u32::MAX, far]));
     Fault::event(at)
 }
@@ -151,34 +181,16 @@ fn too_short(rng: &mut Rng, draft: &mut Draft, made: &Made, at: usize) -> Option
 fn description(rng: &mut Rng, draft: &mut Draft) -> Option<Fault> {
     let it = &mut draft.sheets[0];
     let kind_at = it.bytes.len() - 1;
-    match rng.below(8) {
+    match rng.below(7) {
         0 => it.length = Some(rng.pick(&[0, 19, 112, 337, 338, u32::MAX])),
         // too few entries, or too many, really
         1 => {
             let count = rng.pick(&[0, 31, 256, 300]);
-            let entries: Vec<u8> = (0..count).map(|_| 20).collect();
-            it.bytes.splice(76..kind_at, entries);
-        }
-        2 => {
-            let version = rng.pick(&[0u16, 1, 3, 5, 0x104, 0x400, u16::MAX]);
-            put(&mut it.bytes, 19, &version.to_le_bytes());
-        }
-        3 => {
-            let header = rng.pick(&[0, 1, 18]);
-            put(&mut it.bytes, 75, &[header]);
-        }
-        4 => {
-            let kind = rng.pick(&[2, 3, 128, 255]);
-            put(&mut it.bytes, kind_at, &[kind]);
-        }
-        5 => {
-            let entry = rng.below(8) as u8;
-            put(&mut it.bytes, 76 + 18, &[entry]);
+            it.bytes.splice(76..kind_at, vec![20; count]);
         }
         _ => {
-            let kind = rng.range(30, 32);
-            let entry = rng.below(10) as u8;
-            put(&mut it.bytes, 76 + kind - 1, &[entry]);
+            let (at, new) = bad_field(rng, kind_at);
+            put(&mut it.bytes, at, &new);
         }
     }
     // 6 is judged before the server version and the checksum
@@ -189,11 +201,51 @@ fn description(rng: &mut Rng, draft: &mut Draft) -> Option<Fault> {
     Fault::event(0)
 }
 
+/// A field of the description: its place, and bytes that are refused.
+fn bad_field(rng: &mut Rng, kind_at: usize) -> (usize, Vec<u8>) {
+    match rng.below(5) {
+        0 => {
+            let version = rng.pick(&[0u16, 1, 3, 5, 0x104, 0x400, u16::MAX]);
+            (19, version.to_le_bytes().to_vec())
+        }
+        1 => (75, vec![rng.pick(&[0, 1, 18])]),
+        2 => (kind_at, vec![rng.pick(&[2, 3, 128, 255])]),
+        _ => {
+            let (kind, least) = rng.pick(&READ);
+            (75 + usize::from(kind), vec![rng.below(least.into()) as u8])
+        }
+    }
+}
+
 fn version(rng: &mut Rng, draft: &mut Draft) -> Option<Fault> {
     let texts: [&str; 28] = [
-        "5.6.0", "5.5.99", "5.5.255", "4.255.255", "0.0.0", "5.06.0", "3.23.58", "5.6", "5.6.",
-        "5..1", ".5.6.1", "5.6.256", "256.0.0", "5.256.1", "5.6.1234", "5.6.0001", "0005.6.1",
-        "5.0006.1", "a.b.c", "", " 5.6.1", "+5.6.1", "5.6.-1", "5,6,1", "5.6-1", "5.6.x", "999.6.1",
+        "5.6.0",
+        "5.5.99",
+        "5.5.255",
+        "4.255.255",
+        "0.0.0",
+        "5.06.0",
+        "3.23.58",
+        "5.6",
+        "5.6.",
+        "5..1",
+        ".5.6.1",
+        "5.6.256",
+        "256.0.0",
+        "5.256.1",
+        "5.6.1234",
+        "5.6.0001",
+        "0005.6.1",
+        "5.0006.1",
+        "a.b.c",
+        "",
+        " 5.6.1",
+        "+5.6.1",
+        "5.6.-1",
+        "5,6,1",
+        "5.6-1",
+        "5.6.x",
+        "999.6.1",
         "99999999999999999999999999999999999999999999999999",
     ];
     let mut text = rng.pick(&texts).as_bytes().to_vec();
@@ -220,8 +272,15 @@ fn wrong_sum(rng: &mut Rng, draft: &mut Draft, at: usize) -> Option<Fault> {
 
 fn next_position(rng: &mut Rng, draft: &mut Draft, made: &Made, at: usize) -> Option<Fault> {
     let end = made.starts.get(at + 1).copied().unwrap_or(made.bytes.len()) as u32;
-    let any = rng.next() as u32;
-    let next = rng.pick(&[0, end - 1, end + 1, end ^ 1 << 31, made.starts[at] as u32, any]);
+    let any = rng.number() as u32;
+    let next = rng.pick(&[
+        0,
+        end - 1,
+        end + 1,
+        end ^ 1 << 31,
+        made.starts[at] as u32,
+        any,
+    ]);
     if next == end {
         return None;
     }
@@ -237,7 +296,11 @@ fn next_position(rng: &mut Rng, draft: &mut Draft, made: &Made, at: usize) -> Op
 
 fn second_description(rng: &mut Rng, draft: &mut Draft, made: &Made) -> Option<Fault> {
     let at = rng.range(1, draft.sheets.len());
-    let mut new = if rng.once_in(2) { draft.sheets[0].clone() } else { free(rng, made, 15, 0) };
+    let mut new = if rng.once_in(2) {
+        draft.sheets[0].clone()
+    } else {
+        free(rng, made, 15, 0)
+    };
     // whatever its length, position and checksum are
     if rng.once_in(2) {
         new.length = Some(rng.pick(&[0, 19, u32::MAX]));
@@ -255,7 +318,10 @@ fn unsupported(rng: &mut Rng, draft: &mut Draft, made: &Made) -> Option<Fault> {
         (unknown_type(rng), 0)
     } else {
         // the mark doesn't save a type that a rule names
-        (rng.pick(&[20, 21, 22, 23, 24, 25, 39, 40]), rng.pick(&[0, 0x80]))
+        (
+            rng.pick(&[20, 21, 22, 23, 24, 25, 39, 40]),
+            rng.pick(&[0, 0x80]),
+        )
     };
     let changed: Vec<usize> = (1..draft.sheets.len())
         .filter(|at| draft.sheets[*at].bytes[4] != 4)
@@ -305,7 +371,7 @@ fn table_map(rng: &mut Rng, draft: &mut Draft, number: u32) -> Option<Fault> {
 
 /// A packed number that is too large, or is none.
 fn bad_packed(rng: &mut Rng) -> Vec<u8> {
-    let any = rng.next() | 1 << 40;
+    let any = rng.number() | 1 << 40;
     rng.pick(&[
         vec![251],
         vec![255],
@@ -332,7 +398,11 @@ fn bad_map(rng: &mut Rng, bytes: &mut Vec<u8>, marks: &MapMarks) {
         }
         _ => {
             let length = marks.metadata.len() as u64;
-            let other = if length > 0 && rng.once_in(2) { length - 1 } else { length + 1 };
+            let other = if length > 0 && rng.once_in(2) {
+                length - 1
+            } else {
+                length + 1
+            };
             let bad = bad_packed(rng);
             let new = rng.pick(&[Form::None.pack(other), Form::Eight.pack(other), bad]);
             // the length is judged before the contents
@@ -346,11 +416,18 @@ fn bad_map(rng: &mut Rng, bytes: &mut Vec<u8>, marks: &MapMarks) {
 }
 
 fn bad_type(rng: &mut Rng, bytes: &mut Vec<u8>, marks: &MapMarks) {
-    let others: Vec<u8> =
-        (0..=255).filter(|kind| !crate::values::KINDS.contains(kind)).collect();
-    let known = [0, 6, 7, 11, 12, 14, 16, 245, 246, 247, 248, 249, 250, 251, 253, 254, 255];
+    let others: Vec<u8> = (0..=255)
+        .filter(|kind| !crate::values::KINDS.contains(kind))
+        .collect();
+    let known = [
+        0, 6, 7, 11, 12, 14, 16, 245, 246, 247, 248, 249, 250, 251, 253, 254, 255,
+    ];
     let at = rng.range(marks.types.start, marks.types.end - 1);
-    let kind = if rng.once_in(2) { rng.pick(&others) } else { rng.pick(&known) };
+    let kind = if rng.once_in(2) {
+        rng.pick(&others)
+    } else {
+        rng.pick(&known)
+    };
     put(bytes, at, &[kind]);
     // the types are judged before anything behind them
     if rng.once_in(2) {
@@ -432,7 +509,9 @@ fn rows(rng: &mut Rng, draft: &mut Draft, made: &Made, number: u32) -> Option<Fa
         Marks::Rows(rows) => Some(rows.clone()),
         _ => None,
     })?;
-    let Body::Rows(tree) = &made.tree.events.get(at - 1)?.body else { return None };
+    let Body::Rows(tree) = &made.tree.events.get(at - 1)?.body else {
+        return None;
+    };
     let bytes = &mut draft.sheets[at].bytes;
     match number {
         15 => {
@@ -461,15 +540,15 @@ fn no_map(rng: &mut Rng, bytes: &mut Vec<u8>, marks: &RowsMarks, taken: &[u64]) 
 }
 
 fn bad_head(rng: &mut Rng, bytes: &mut Vec<u8>, marks: &RowsMarks, columns: usize) {
+    let end = marks.used.last().map_or(marks.count.end, |used| used.end);
     match rng.below(5) {
         0 => {
-            let end = marks.used.last().map_or(marks.count.end, |used| used.end);
             bytes.truncate(rng.range(marks.body, end - 1));
             // a post-header that is cut is judged before the map
             if bytes.len() < marks.post_end {
-                let id = rng.bytes(6);
                 let there = bytes.len().min(marks.body + 6) - marks.body;
-                put(bytes, marks.body, &id[..there]);
+                let id = rng.bytes(there);
+                put(bytes, marks.body, &id);
             }
         }
         1 => {
@@ -480,27 +559,31 @@ fn bad_head(rng: &mut Rng, bytes: &mut Vec<u8>, marks: &RowsMarks, columns: usiz
             put(bytes, marks.body + 8, &rng.pick(&bad).to_le_bytes());
         }
         2 => {
-            let count = columns as u64;
-            let form = rng.pick(&[Form::None, Form::Two, Form::Three, Form::Eight]);
-            let other = rng.pick(&[0, count - 1, count + 1, count + 256, count + (1 << 32)]);
-            let other = if other == count { count + 1 } else { other };
-            let bad = bad_packed(rng);
-            let new = rng.pick(&[form.pack(other), bad]);
+            let new = other_count(rng, columns as u64);
             bytes.splice(marks.count.clone(), new);
         }
         _ => {
             let used = rng.pick(&marks.used);
             let mut none = vec![0; used.len()];
             // spare one bits are no columns
-            if let (Some(last), true) = (none.last_mut(), columns % 8 != 0) {
+            if let (Some(last), true) = (none.last_mut(), !columns.is_multiple_of(8)) {
                 *last = rng.pick(&[0, 0xff]) << (columns % 8);
             }
             put(bytes, used.start, &none);
+            // also if there are no rows
             if rng.once_in(3) {
-                bytes.truncate(marks.used.last().map_or(bytes.len(), |used| used.end));
+                bytes.truncate(end);
             }
         }
     }
+}
+
+/// A packed number that isn't the map's column count.
+fn other_count(rng: &mut Rng, count: u64) -> Vec<u8> {
+    let form = rng.pick(&[Form::None, Form::Two, Form::Three, Form::Eight]);
+    let other = rng.pick(&[0, count - 1, count + 1, count + 256, count + (1 << 32)]);
+    let bad = bad_packed(rng);
+    rng.pick(&[form.pack(other), bad])
 }
 
 fn cut_rows(
@@ -521,8 +604,16 @@ fn cut_rows(
     let which = rng.below(marks.images.len());
     let image = &marks.images[which].whole;
     // an update's rows must not end between its images
-    let end = if which % sides + 1 < sides { image.end } else { image.end - 1 };
-    let start = if which % sides == 0 { image.start + 1 } else { image.start };
+    let end = if which % sides + 1 < sides {
+        image.end
+    } else {
+        image.end - 1
+    };
+    let start = if which.is_multiple_of(sides) {
+        image.start + 1
+    } else {
+        image.start
+    };
     if start > end {
         return None;
     }
@@ -532,7 +623,11 @@ fn cut_rows(
 
 /// Every stored value: its column and where it stands.
 fn stored(marks: &RowsMarks) -> Vec<(usize, Range<usize>)> {
-    marks.images.iter().flat_map(|image| image.values.clone()).collect()
+    marks
+        .images
+        .iter()
+        .flat_map(|image| image.values.clone())
+        .collect()
 }
 
 /// A blob's length that runs past the rows, or a bad value that is cut.
@@ -583,7 +678,11 @@ fn bad_value(
     let bad = column.store_bad(rng)?;
     let whole = range.start + bad.len();
     // a text's length is judged as soon as it is there
-    let judged = if column.kind == 15 { range.start + column.length_bytes() } else { whole };
+    let judged = if column.kind == 15 {
+        range.start + column.length_bytes()
+    } else {
+        whole
+    };
     bytes.splice(range.clone(), bad);
     if rng.once_in(2) {
         bytes.truncate(rng.range(judged, bytes.len()));

@@ -35,11 +35,19 @@ pub fn longer(seed: u64, old: &Made) -> Longer {
         let count = rng.length(room);
         tree.description.entries.extend(rng.bytes(count));
     }
-    let kept = if rng.once_in(2) { add_events(&mut rng, &mut tree) } else { all(&tree) };
+    let kept = if rng.once_in(2) {
+        add_events(&mut rng, &mut tree)
+    } else {
+        all(&tree)
+    };
     let added = tree.events.len() - kept.len();
     let made = made(tree);
     let places = places(old, &made, &kept);
-    Longer { made, added, places }
+    Longer {
+        made,
+        added,
+        places,
+    }
 }
 
 fn all(tree: &Log) -> Vec<usize> {
@@ -105,7 +113,11 @@ fn grow_blocks(rng: &mut Rng, event: &mut Event) {
         }
         Body::Rows(rows) => {
             let room = 65_533 - rows.extra.len();
-            let count = if rng.once_in(40) { room } else { rng.pick(&[0, 1, 5, 300]) };
+            let count = if rng.once_in(40) {
+                room
+            } else {
+                rng.pick(&[0, 1, 5, 300])
+            };
             scatter(rng, &mut rows.extra, count.min(room));
         }
         Body::Free(_) => {}
@@ -142,7 +154,10 @@ fn places(old: &Made, new: &Made, kept: &[usize]) -> BTreeMap<u32, u32> {
             (&old.draft.sheets[was].marks, &new.draft.sheets[is].marks)
         {
             for (was, is) in was.images.iter().zip(&is.images) {
-                places.insert((from + was.whole.start) as u32, (to + is.whole.start) as u32);
+                places.insert(
+                    (from + was.whole.start) as u32,
+                    (to + is.whole.start) as u32,
+                );
             }
         }
     }

@@ -82,7 +82,14 @@ pub(crate) struct ImageMarks {
 
 impl Sheet {
     pub fn new(bytes: Vec<u8>, marks: Marks, summed: bool) -> Sheet {
-        Sheet { bytes, marks, summed, length: None, next: None, sum_flip: 0 }
+        Sheet {
+            bytes,
+            marks,
+            summed,
+            length: None,
+            next: None,
+            sum_flip: 0,
+        }
     }
 }
 
@@ -119,11 +126,24 @@ pub(crate) fn put(bytes: &mut [u8], at: usize, new: &[u8]) {
 /// Prints a tree.
 pub fn made(tree: Log) -> Made {
     let mut sheets = vec![description(&tree.description)];
-    sheets.extend(tree.events.iter().map(|event| sheet(&tree.description, event)));
-    let draft = Draft { opening: vec![0xfe, b'b', b'i', b'n'], sheets };
+    sheets.extend(
+        tree.events
+            .iter()
+            .map(|event| sheet(&tree.description, event)),
+    );
+    let draft = Draft {
+        opening: vec![0xfe, b'b', b'i', b'n'],
+        sheets,
+    };
     let (bytes, starts) = draft.assemble();
     let truth = truth(&tree, &draft, &starts);
-    Made { tree, bytes, starts, truth, draft }
+    Made {
+        tree,
+        bytes,
+        starts,
+        truth,
+        draft,
+    }
 }
 
 /// Time, type, server id, then length and next position still 0, flags.
@@ -168,7 +188,10 @@ fn extend(bytes: &mut Vec<u8>, new: &[u8]) -> Range<usize> {
 }
 
 fn print_map(bytes: &mut Vec<u8>, map: &Map) -> MapMarks {
-    let mut marks = MapMarks { body: bytes.len(), ..MapMarks::default() };
+    let mut marks = MapMarks {
+        body: bytes.len(),
+        ..MapMarks::default()
+    };
     bytes.extend(&map.id.to_le_bytes()[..6]);
     bytes.extend(map.flags.to_le_bytes());
     bytes.extend(&map.post);
@@ -180,7 +203,11 @@ fn print_map(bytes: &mut Vec<u8>, map: &Map) -> MapMarks {
         bytes.push(0);
     }
     let types: Vec<u8> = map.columns.iter().map(|column| column.kind).collect();
-    let metadata: Vec<u8> = map.columns.iter().flat_map(|column| column.metadata()).collect();
+    let metadata: Vec<u8> = map
+        .columns
+        .iter()
+        .flat_map(|column| column.metadata())
+        .collect();
     marks.count = extend(bytes, &map.count_form.pack(map.columns.len() as u64));
     marks.types = extend(bytes, &types);
     marks.metadata_length = extend(bytes, &map.metadata_form.pack(metadata.len() as u64));
@@ -191,7 +218,10 @@ fn print_map(bytes: &mut Vec<u8>, map: &Map) -> MapMarks {
 }
 
 fn print_rows(bytes: &mut Vec<u8>, rows: &Rows) -> RowsMarks {
-    let mut marks = RowsMarks { body: bytes.len(), ..RowsMarks::default() };
+    let mut marks = RowsMarks {
+        body: bytes.len(),
+        ..RowsMarks::default()
+    };
     bytes.extend(&rows.id.to_le_bytes()[..6]);
     bytes.extend(rows.flags.to_le_bytes());
     bytes.extend((rows.extra.len() as u16 + 2).to_le_bytes());
@@ -211,7 +241,10 @@ fn print_rows(bytes: &mut Vec<u8>, rows: &Rows) -> RowsMarks {
 fn print_image(bytes: &mut Vec<u8>, rows: &Rows, image: &Image) -> ImageMarks {
     let start = bytes.len();
     let present = image.cells.iter().filter(|cell| **cell != Cell::Absent);
-    let nulls = Bits { set: present.map(|cell| *cell == Cell::Null).collect(), spare: image.spare };
+    let nulls = Bits {
+        set: present.map(|cell| *cell == Cell::Null).collect(),
+        spare: image.spare,
+    };
     bytes.extend(nulls.bytes());
     let mut values = Vec::new();
     for (at, (column, cell)) in rows.columns.iter().zip(&image.cells).enumerate() {
@@ -219,7 +252,10 @@ fn print_image(bytes: &mut Vec<u8>, rows: &Rows, image: &Image) -> ImageMarks {
             values.push((at, extend(bytes, &column.store(value))));
         }
     }
-    ImageMarks { whole: start..bytes.len(), values }
+    ImageMarks {
+        whole: start..bytes.len(),
+        values,
+    }
 }
 
 impl Form {
@@ -243,7 +279,7 @@ impl Bits {
         for (at, _) in self.set.iter().enumerate().filter(|(_, bit)| **bit) {
             bytes[at / 8] |= 1 << (at % 8);
         }
-        if self.set.len() % 8 != 0 {
+        if !self.set.len().is_multiple_of(8) {
             if let Some(last) = bytes.last_mut() {
                 *last |= self.spare & (0xff << (self.set.len() % 8)) as u8;
             }
@@ -255,65 +291,75 @@ impl Bits {
 fn truth(tree: &Log, draft: &Draft, starts: &[usize]) -> Truth {
     let mut changes = Vec::new();
     for (at, event) in tree.events.iter().enumerate() {
-        if let Body::Rows(rows) = &event.body {
-            changes.extend(rows_truth(tree, draft, starts, at, event.kind, rows));
+        if let (Body::Rows(rows), Marks::Rows(marks)) = (&event.body, &draft.sheets[at + 1].marks) {
+            let Some(table) = table(tree, draft, starts, at, rows) else {
+                continue;
+            };
+            changes.extend(rows_truth(&table, starts[at + 1], event.kind, rows, marks));
         }
     }
-    let counts = Counts { events: starts.len(), changes: changes.len() };
+    let counts = Counts {
+        events: starts.len(),
+        changes: changes.len(),
+    };
     Truth { counts, changes }
 }
 
-/// The changes of event `at`, which come from the last map of its id.
-fn rows_truth(
-    tree: &Log,
-    draft: &Draft,
-    starts: &[usize],
-    at: usize,
-    kind: u8,
-    rows: &Rows,
-) -> Vec<Change> {
-    let maps = tree.events[..at].iter().enumerate().rev();
-    let found = maps.filter_map(|(i, event)| match &event.body {
-        Body::Map(map) if map.id == rows.id => Some((i + 1, map)),
-        _ => None,
-    });
-    let (Some((map_at, map)), Marks::Rows(marks)) =
-        (found.into_iter().next(), &draft.sheets[at + 1].marks)
-    else {
-        return Vec::new();
+/// What all changes of a rows event say of their table; the listing has only
+/// the map's place. The map is the last one of the id before event `at`.
+fn table(tree: &Log, draft: &Draft, starts: &[usize], at: usize, rows: &Rows) -> Option<Head> {
+    let earlier = tree.events[..at].iter().enumerate().rev();
+    let (at, map) = earlier
+        .filter_map(|(i, event)| match &event.body {
+            Body::Map(map) if map.id == rows.id => Some((i + 1, map)),
+            _ => None,
+        })
+        .next()?;
+    let Marks::Map(marks) = &draft.sheets[at].marks else {
+        return None;
     };
-    let Marks::Map(map_marks) = &draft.sheets[map_at].marks else { return Vec::new() };
     let name = |which: usize, bytes: &[u8]| Part {
-        place: starts[map_at] + map_marks.names[which] + 1,
+        place: starts[at] + marks.names[which] + 1,
         bytes: bytes.to_vec(),
     };
-    let start = starts[at + 1];
-    let mut images = marks.images.iter();
-    rows.rows
-        .iter()
-        .map(|row| {
-            let mut sides = row.iter().zip(&mut images).map(|(image, marks)| {
-                (start + marks.whole.start, cells(image, marks, start))
-            });
-            let before = if kind == 30 { None } else { sides.next() };
-            let after = if kind == 32 { None } else { sides.next() };
-            let place = |side: &Option<(usize, Vec<Cell>)>| side.as_ref().map_or(0, |it| it.0 as u32);
-            let head = Head {
-                listing: [
-                    u32::from(kind),
-                    start as u32,
-                    starts[map_at] as u32,
-                    place(&before),
-                    place(&after),
-                ],
-                table_id: rows.id,
-                columns: rows.columns.len(),
-                database: name(0, &map.database),
-                table: name(1, &map.table),
-            };
-            Change { head, sides: [before, after].map(|side| side.map(|it| it.1)) }
-        })
-        .collect()
+    Some(Head {
+        listing: [0, 0, starts[at] as u32, 0, 0],
+        table_id: rows.id,
+        columns: rows.columns.len(),
+        database: name(0, &map.database),
+        table: name(1, &map.table),
+    })
+}
+
+/// The changes of the rows event of type `kind` that starts at `start`.
+fn rows_truth(table: &Head, start: usize, kind: u8, rows: &Rows, marks: &RowsMarks) -> Vec<Change> {
+    let mut marks = marks.images.iter();
+    let mut changes = Vec::new();
+    for row in &rows.rows {
+        let mut images = row.iter().zip(&mut marks).map(|(image, marks)| {
+            (
+                (start + marks.whole.start) as u32,
+                cells(image, marks, start),
+            )
+        });
+        let before = if kind == 30 { None } else { images.next() };
+        let after = if kind == 32 { None } else { images.next() };
+        let place = |side: &Option<(u32, Vec<Cell>)>| side.as_ref().map_or(0, |it| it.0);
+        let mut head = table.clone();
+        let map = head.listing[2];
+        head.listing = [
+            u32::from(kind),
+            start as u32,
+            map,
+            place(&before),
+            place(&after),
+        ];
+        changes.push(Change {
+            head,
+            sides: [before, after].map(|side| side.map(|it| it.1)),
+        });
+    }
+    changes
 }
 
 /// An image's cells, with the places of its texts.

@@ -34,7 +34,16 @@ impl Description {
         for (kind, length) in READ {
             entries[usize::from(kind) - 1] = length;
         }
-        Description { time: 0, server: 0, flags: 0, version, created: 0, header: 19, entries, kind: 1 }
+        Description {
+            time: 0,
+            server: 0,
+            flags: 0,
+            version,
+            created: 0,
+            header: 19,
+            entries,
+            kind: 1,
+        }
     }
 
     /// The post-header length that the list has for a type.
@@ -79,7 +88,14 @@ pub struct Event {
 impl Event {
     /// With nothing in its header beyond 19 bytes.
     pub fn plain(kind: u8, flags: u16, body: Body) -> Event {
-        Event { time: 0, kind, server: 0, flags, more: Vec::new(), body }
+        Event {
+            time: 0,
+            kind,
+            server: 0,
+            flags,
+            more: Vec::new(),
+            body,
+        }
     }
 }
 
@@ -115,7 +131,10 @@ impl Map {
             post: Vec::new(),
             database: Vec::new(),
             table: Vec::new(),
-            nullable: Bits { set: columns.iter().map(|_| true).collect(), spare: 0 },
+            nullable: Bits {
+                set: columns.iter().map(|_| true).collect(),
+                spare: 0,
+            },
             columns,
             count_form: Form::None,
             metadata_form: Form::None,
@@ -165,7 +184,10 @@ pub struct Rows {
 impl Rows {
     /// Full images that end the statement.
     pub fn plain(id: u64, columns: Vec<Column>, rows: Vec<Vec<Image>>) -> Rows {
-        let full = Bits { set: columns.iter().map(|_| true).collect(), spare: 0xff };
+        let full = Bits {
+            set: columns.iter().map(|_| true).collect(),
+            spare: 0xff,
+        };
         Rows {
             id,
             flags: 1,
@@ -173,7 +195,11 @@ impl Rows {
             extra: Vec::new(),
             columns,
             count_form: Form::None,
-            used: rows.first().map_or(1..2, |row| 0..row.len()).map(|_| full.clone()).collect(),
+            used: rows
+                .first()
+                .map_or(1..2, |row| 0..row.len())
+                .map(|_| full.clone())
+                .collect(),
             rows,
         }
     }
@@ -205,11 +231,32 @@ pub enum Value {
     Float(u32),
     /// The stored bits.
     Double(u64),
-    Date { year: u32, month: u32, day: u32 },
+    Date {
+        year: u32,
+        month: u32,
+        day: u32,
+    },
     Year(u32),
-    Timestamp { seconds: u32, micros: u32 },
-    DateTime { year: u32, month: u32, day: u32, hour: u32, minute: u32, second: u32, micros: u32 },
-    Time { negative: bool, hour: u32, minute: u32, second: u32, micros: u32 },
+    Timestamp {
+        seconds: u32,
+        micros: u32,
+    },
+    DateTime {
+        year: u32,
+        month: u32,
+        day: u32,
+        hour: u32,
+        minute: u32,
+        second: u32,
+        micros: u32,
+    },
+    Time {
+        negative: bool,
+        hour: u32,
+        minute: u32,
+        second: u32,
+        micros: u32,
+    },
     Text(Part),
 }
 

@@ -24,20 +24,62 @@ pub struct Shape {
 }
 
 impl Shape {
-    pub const SMALL: Shape =
-        Shape { events: 8, columns: (1, 4), rows: 2, text: 6, growth: 3, maps: 1 };
-    pub const MIXED: Shape =
-        Shape { events: 30, columns: (1, 20), rows: 4, text: 40, growth: 236, maps: 1 };
-    pub const WIDE: Shape =
-        Shape { events: 6, columns: (240, 512), rows: 2, text: 5, growth: 5, maps: 1 };
-    pub const WIDEST: Shape =
-        Shape { events: 5, columns: (505, 512), rows: 1, text: 2, growth: 2, maps: 1 };
-    pub const LIVE: Shape =
-        Shape { events: 70, columns: (1, 9), rows: 1, text: 3, growth: 2, maps: 8 };
-    pub const LONG: Shape =
-        Shape { events: 8, columns: (1, 3), rows: 2, text: 70_000, growth: 9, maps: 1 };
-    pub const ALL: [Shape; 6] =
-        [Shape::SMALL, Shape::MIXED, Shape::WIDE, Shape::WIDEST, Shape::LIVE, Shape::LONG];
+    pub const SMALL: Shape = Shape {
+        events: 8,
+        columns: (1, 4),
+        rows: 2,
+        text: 6,
+        growth: 3,
+        maps: 1,
+    };
+    pub const MIXED: Shape = Shape {
+        events: 30,
+        columns: (1, 20),
+        rows: 4,
+        text: 40,
+        growth: 236,
+        maps: 1,
+    };
+    pub const WIDE: Shape = Shape {
+        events: 6,
+        columns: (240, 512),
+        rows: 2,
+        text: 5,
+        growth: 5,
+        maps: 1,
+    };
+    pub const WIDEST: Shape = Shape {
+        events: 5,
+        columns: (505, 512),
+        rows: 1,
+        text: 2,
+        growth: 2,
+        maps: 1,
+    };
+    pub const LIVE: Shape = Shape {
+        events: 70,
+        columns: (1, 9),
+        rows: 1,
+        text: 3,
+        growth: 2,
+        maps: 8,
+    };
+    pub const LONG: Shape = Shape {
+        events: 8,
+        columns: (1, 3),
+        rows: 2,
+        text: 70_000,
+        growth: 9,
+        maps: 1,
+    };
+    pub const ALL: [Shape; 6] = [
+        Shape::SMALL,
+        Shape::MIXED,
+        Shape::WIDE,
+        Shape::WIDEST,
+        Shape::LIVE,
+        Shape::LONG,
+    ];
 }
 
 /// Types that are stepped over by name (01, Framing).
@@ -45,7 +87,9 @@ pub const STEPPED: [u8; 9] = [2, 3, 4, 16, 28, 29, 33, 34, 35];
 
 /// Types that no rule names (01, Framing).
 pub(crate) fn unknown_type(rng: &mut Rng) -> u8 {
-    const LOW: [u8; 18] = [0, 1, 5, 6, 7, 8, 9, 10, 11, 12, 13, 14, 17, 18, 26, 27, 36, 37];
+    const LOW: [u8; 18] = [
+        0, 1, 5, 6, 7, 8, 9, 10, 11, 12, 13, 14, 17, 18, 26, 27, 36, 37,
+    ];
     match rng.below(3) {
         0 => rng.pick(&[38, 41, 42, 127, 128, 160, 255]),
         1 => rng.range(41, 255) as u8,
@@ -57,10 +101,18 @@ pub(crate) fn unknown_type(rng: &mut Rng) -> u8 {
 pub fn valid(seed: u64, shape: Shape) -> Made {
     let mut rng = Rng::new(seed);
     let description = description(&mut rng, shape);
-    let mut maker = Maker { rng, shape, description, live: Vec::new() };
+    let mut maker = Maker {
+        rng,
+        shape,
+        description,
+        live: Vec::new(),
+    };
     let count = maker.rng.range(0, shape.events);
     let events = (0..count).map(|_| maker.event()).collect();
-    made(Log { description: maker.description, events })
+    made(Log {
+        description: maker.description,
+        events,
+    })
 }
 
 /// A length of at least `least` in a byte, often longer.
@@ -83,11 +135,11 @@ fn description(rng: &mut Rng, shape: Shape) -> Description {
         }
     }
     Description {
-        time: rng.next() as u32,
-        server: rng.next() as u32,
+        time: rng.number() as u32,
+        server: rng.number() as u32,
         flags: flags(rng),
         version: version(rng),
-        created: rng.next() as u32,
+        created: rng.number() as u32,
         header: grown(rng, 19, shape.growth),
         entries,
         kind: rng.below(2) as u8,
@@ -95,18 +147,33 @@ fn description(rng: &mut Rng, shape: Shape) -> Description {
 }
 
 fn flags(rng: &mut Rng) -> u16 {
-    let any = rng.next() as u16;
+    let any = rng.number() as u16;
     rng.pick(&[0, 0, any])
 }
 
 fn version(rng: &mut Rng) -> Vec<u8> {
     let texts: [&str; 14] = [
-        "5.6.1", "5.6.1-m5-log", "5.7.13-log", "8.0.36", "8.4.0-commercial", "9.7.4",
-        "10.11.6-MariaDB-log", "005.006.001", "5.6.255", "5.255.0", "255.255.255", "5.7.0.9.9",
-        "6.0.0", "5.6.10x77",
+        "5.6.1",
+        "5.6.1-m5-log",
+        "5.7.13-log",
+        "8.0.36",
+        "8.4.0-commercial",
+        "9.7.4",
+        "10.11.6-MariaDB-log",
+        "005.006.001",
+        "5.6.255",
+        "5.255.0",
+        "255.255.255",
+        "5.7.0.9.9",
+        "6.0.0",
+        "5.6.10x77",
     ];
     let mut bytes = rng.pick(&texts).as_bytes().to_vec();
-    let fill = if rng.once_in(2) { vec![0; 50] } else { rng.bytes(50) };
+    let fill = if rng.once_in(2) {
+        vec![0; 50]
+    } else {
+        rng.bytes(50)
+    };
     // a run is all the digits that stand together
     if fill[0].is_ascii_digit() {
         bytes.push(b'-');
@@ -126,7 +193,11 @@ struct Maker {
 
 impl Maker {
     fn event(&mut self) -> Event {
-        let weights = [2, 2 * self.shape.maps, if self.live.is_empty() { 0 } else { 4 }];
+        let weights = [
+            2,
+            2 * self.shape.maps,
+            if self.live.is_empty() { 0 } else { 4 },
+        ];
         let pick = self.rng.below(weights.iter().sum());
         let (kind, body) = if pick < weights[0] {
             self.stepped()
@@ -136,7 +207,11 @@ impl Maker {
             let kind = self.rng.range(30, 32) as u8;
             (kind, Body::Rows(self.rows(kind)))
         };
-        let mark = if STEPPED.contains(&kind) || matches!(kind, 19 | 30..=32) { 0 } else { 0x80 };
+        let mark = if STEPPED.contains(&kind) || matches!(kind, 19 | 30..=32) {
+            0
+        } else {
+            0x80
+        };
         event(&mut self.rng, &self.description, kind, mark, body)
     }
 
@@ -156,7 +231,10 @@ impl Maker {
         if again {
             return self.rng.pick(&self.live).0;
         }
-        fresh_id(&mut self.rng, &self.live.iter().map(|it| it.0).collect::<Vec<_>>())
+        fresh_id(
+            &mut self.rng,
+            &self.live.iter().map(|it| it.0).collect::<Vec<_>>(),
+        )
     }
 
     fn map(&mut self) -> Map {
@@ -180,7 +258,11 @@ impl Maker {
         let used: Vec<Bits> = (0..sides).map(|_| used_set(rng, columns.len())).collect();
         let count = rng.length(self.shape.rows);
         let rows = (0..count)
-            .map(|_| used.iter().map(|used| image(rng, &columns, used, self.shape.text)).collect())
+            .map(|_| {
+                used.iter()
+                    .map(|used| image(rng, &columns, used, self.shape.text))
+                    .collect()
+            })
             .collect();
         let extra = if rng.once_in(2) { 0 } else { rng.length(12) };
         let ends = u16::from(rng.once_in(3));
@@ -210,9 +292,9 @@ pub(crate) fn event(
     body: Body,
 ) -> Event {
     Event {
-        time: rng.next() as u32,
+        time: rng.number() as u32,
         kind,
-        server: rng.next() as u32,
+        server: rng.number() as u32,
         flags: flags(rng) & !0x80 | mark,
         more: rng.bytes(description.header_of(kind) - 19),
         body,
@@ -222,7 +304,7 @@ pub(crate) fn event(
 /// A table id that isn't among `taken`.
 pub(crate) fn fresh_id(rng: &mut Rng, taken: &[u64]) -> u64 {
     loop {
-        let any = rng.next() & 0xffff_ffff_ffff;
+        let any = rng.number() & 0xffff_ffff_ffff;
         // ids that differ in their highest or lowest byte alone are likely
         let near = rng.below(20) as u64;
         let far = (rng.below(4) as u64) << 40 | 7;
@@ -258,7 +340,14 @@ pub(crate) fn map(rng: &mut Rng, id: u64, post: usize, columns: Vec<Column>) -> 
 }
 
 fn form(rng: &mut Rng) -> Form {
-    rng.pick(&[Form::None, Form::None, Form::None, Form::Two, Form::Three, Form::Eight])
+    rng.pick(&[
+        Form::None,
+        Form::None,
+        Form::None,
+        Form::Two,
+        Form::Three,
+        Form::Eight,
+    ])
 }
 
 /// A used set with at least one column.
@@ -269,7 +358,10 @@ fn used_set(rng: &mut Rng, count: usize) -> Bits {
         set[rng.below(count)] = true;
     }
     let any = rng.byte();
-    Bits { set, spare: rng.pick(&[0, 0xff, any]) }
+    Bits {
+        set,
+        spare: rng.pick(&[0, 0xff, any]),
+    }
 }
 
 /// Nulls come in any column, also in those that aren't marked nullable.
@@ -285,5 +377,8 @@ fn image(rng: &mut Rng, columns: &[Column], used: &Bits, text: usize) -> Image {
         })
         .collect();
     let any = rng.byte();
-    Image { cells, spare: rng.pick(&[0, 0xff, any]) }
+    Image {
+        cells,
+        spare: rng.pick(&[0, 0xff, any]),
+    }
 }

@@ -45,7 +45,7 @@ impl Column {
             4 => 4,
             5 => 8,
             15 => {
-                let free = rng.next() as u16;
+                let free = rng.number() as u16;
                 rng.pick(&[0, 1, 20, 254, 255, 256, 257, 1000, 65535, free])
             }
             17..=19 => rng.range(0, 6) as u16,
@@ -73,12 +73,18 @@ impl Column {
                 0 => 0,
                 byte => 1900 + byte,
             }),
-            17 => Value::Timestamp { seconds: integer(rng) as u32, micros: self.micros(rng) },
+            17 => Value::Timestamp {
+                seconds: integer(rng) as u32,
+                micros: self.micros(rng),
+            },
             18 => self.date_time(rng),
             19 => self.time(rng),
             15 | 252 => {
                 let length = rng.length(self.longest().min(longest));
-                Value::Text(Part { place: 0, bytes: rng.bytes(length) })
+                Value::Text(Part {
+                    place: 0,
+                    bytes: rng.bytes(length),
+                })
             }
             _ => Value::Integer(integer(rng)),
         }
@@ -114,49 +120,64 @@ impl Column {
         let zero = hour == 0 && minute == 0 && second == 0 && micros == 0;
         // nothing has no sign: the difference is 0
         let negative = !zero && rng.once_in(2);
-        Value::Time { negative, hour, minute, second, micros }
+        Value::Time {
+            negative,
+            hour,
+            minute,
+            second,
+            micros,
+        }
+    }
+
+    /// Bytes of a stored integer.
+    fn width(self) -> usize {
+        match self.kind {
+            1 => 1,
+            2 => 2,
+            9 => 3,
+            3 => 4,
+            _ => 8,
+        }
+    }
+
+    /// A text's length as it is stored.
+    fn length(self, length: usize) -> Vec<u8> {
+        (length as u64).to_le_bytes()[..self.length_bytes()].to_vec()
     }
 
     /// The stored bytes of a value of this column.
     pub fn store(self, value: &Value) -> Vec<u8> {
         match value {
-            Value::Integer(number) => {
-                let width = match self.kind {
-                    1 => 1,
-                    2 => 2,
-                    9 => 3,
-                    3 => 4,
-                    _ => 8,
-                };
-                number.to_le_bytes()[..width].to_vec()
-            }
+            Value::Integer(number) => number.to_le_bytes()[..self.width()].to_vec(),
             Value::Float(bits) => bits.to_le_bytes().to_vec(),
             Value::Double(bits) => bits.to_le_bytes().to_vec(),
             Value::Date { year, month, day } => date(*year, *month, *day),
             Value::Year(0) => vec![0],
             Value::Year(year) => vec![(year - 1900) as u8],
             Value::Timestamp { seconds, micros } => {
-                let mut stored = seconds.to_be_bytes().to_vec();
-                stored.extend(self.fraction(*micros));
-                stored
+                [big((*seconds).into(), 4), self.fraction(*micros)].concat()
             }
-            Value::DateTime { year, month, day, hour, minute, second, micros } => {
-                let months = u64::from(year * 13 + month);
-                let days = months << 5 | u64::from(*day);
+            Value::DateTime {
+                year,
+                month,
+                day,
+                hour,
+                minute,
+                second,
+                micros,
+            } => {
+                let days = u64::from((year * 13 + month) << 5 | day);
                 let packed = days << 17 | clock(*hour, *minute, *second);
-                let mut stored = big(packed + 0x80_0000_0000, 5);
-                stored.extend(self.fraction(*micros));
-                stored
+                [big(packed + 0x80_0000_0000, 5), self.fraction(*micros)].concat()
             }
-            Value::Time { negative, hour, minute, second, micros } => {
-                self.store_time(*negative, clock(*hour, *minute, *second), *micros)
-            }
-            Value::Text(part) => {
-                let length = part.bytes.len() as u64;
-                let mut stored = length.to_le_bytes()[..self.length_bytes()].to_vec();
-                stored.extend(&part.bytes);
-                stored
-            }
+            Value::Time {
+                negative,
+                hour,
+                minute,
+                second,
+                micros,
+            } => self.store_time(*negative, clock(*hour, *minute, *second), *micros),
+            Value::Text(part) => [self.length(part.bytes.len()), part.bytes.clone()].concat(),
         }
     }
 
@@ -164,10 +185,20 @@ impl Column {
     /// or taken from it.
     fn store_time(self, negative: bool, clock: u64, micros: u32) -> Vec<u8> {
         let below = self.fraction_bytes();
-        let fraction = self.fraction(micros).iter().fold(0, |sum, byte| sum << 8 | u64::from(*byte));
+        let fraction = self
+            .fraction(micros)
+            .iter()
+            .fold(0, |sum, byte| sum << 8 | u64::from(*byte));
         let number = clock << (8 * below) | fraction;
         let offset = 0x80u64 << (8 * (below + 2));
-        big(if negative { offset - number } else { offset + number }, 3 + below)
+        big(
+            if negative {
+                offset - number
+            } else {
+                offset + number
+            },
+            3 + below,
+        )
     }
 
     /// The fraction bytes, in their unit.
@@ -191,7 +222,7 @@ impl Column {
             15 => self.too_long(rng),
             17 => Some([rng.bytes(4), self.whole_second(rng)?].concat()),
             18 if rng.once_in(3) => {
-                let packed = rng.next() & 0x7f_ffff_ffff;
+                let packed = rng.number() & 0x7f_ffff_ffff;
                 let packed = rng.pick(&[0, 0x7f_ffff_ffff, packed]);
                 Some(with_fraction(big(packed, 5), rng))
             }
@@ -201,7 +232,7 @@ impl Column {
             }
             18 => {
                 let clock = bad_clock(rng, 24, 31);
-                let packed = (rng.next() & 0x3f_ffff) << 17 | clock;
+                let packed = (rng.number() & 0x3f_ffff) << 17 | clock;
                 Some(with_fraction(big(packed + 0x80_0000_0000, 5), rng))
             }
             19 => Some(self.bad_time(rng)),
@@ -217,9 +248,7 @@ impl Column {
         }
         let length = usize::from(self.meta) + 1;
         let length = rng.pick(&[length, usize::from(most)]);
-        let mut stored = (length as u64).to_le_bytes()[..self.length_bytes()].to_vec();
-        stored.extend(rng.bytes(length));
-        Some(stored)
+        Some([self.length(length), rng.bytes(length)].concat())
     }
 
     /// Fraction bytes of a whole second or more.
@@ -227,7 +256,7 @@ impl Column {
         let bytes = self.fraction_bytes();
         let second = [0u64, 100, 10_000, 1_000_000][bytes.min(3)];
         let most = (1u64 << (8 * bytes)) - 1;
-        let any = second + rng.next() % (most - second + 1).max(1);
+        let any = second + rng.number() % (most - second + 1).max(1);
         (bytes > 0).then(|| big(rng.pick(&[second, most, any]), bytes))
     }
 
@@ -238,12 +267,23 @@ impl Column {
             return vec![0; 3 + below];
         }
         let (clock, fraction) = match self.whole_second(rng) {
-            Some(fraction) if rng.once_in(2) => (clock(edge(rng, 838), edge(rng, 59), 59), fraction),
+            Some(fraction) if rng.once_in(2) => {
+                (clock(edge(rng, 838), edge(rng, 59), 59), fraction)
+            }
             _ => (bad_clock(rng, 839, 2047), rng.bytes(below)),
         };
-        let number = fraction.iter().fold(clock, |sum, byte| sum << 8 | u64::from(*byte));
+        let number = fraction
+            .iter()
+            .fold(clock, |sum, byte| sum << 8 | u64::from(*byte));
         let offset = 0x80u64 << (8 * (below + 2));
-        big(if rng.once_in(2) { offset - number } else { offset + number }, 3 + below)
+        big(
+            if rng.once_in(2) {
+                offset - number
+            } else {
+                offset + number
+            },
+            3 + below,
+        )
     }
 }
 
@@ -283,19 +323,50 @@ fn edge(rng: &mut Rng, most: u32) -> u32 {
 }
 
 fn integer(rng: &mut Rng) -> i64 {
-    let any = rng.next() as i64;
+    let any = rng.number() as i64;
     let bit = 1i64 << rng.below(64);
-    rng.pick(&[0, 1, -1, any, any, any >> 32, any >> 48, bit, bit.wrapping_sub(1), i64::MIN])
+    rng.pick(&[
+        0,
+        1,
+        -1,
+        any,
+        any,
+        any >> 32,
+        any >> 48,
+        bit,
+        bit.wrapping_sub(1),
+        i64::MIN,
+    ])
 }
 
 /// Zeros, infinities, quiet and signalling NaNs, and any other bits.
 fn float(rng: &mut Rng) -> u32 {
-    let any = rng.next() as u32;
-    rng.pick(&[0, 1 << 31, 0x7f80_0000, 0xff80_0000, 0x7f80_0001, 0xffc0_1234, 0x3f80_0000, 1, any])
+    let any = rng.number() as u32;
+    rng.pick(&[
+        0,
+        1 << 31,
+        0x7f80_0000,
+        0xff80_0000,
+        0x7f80_0001,
+        0xffc0_1234,
+        0x3f80_0000,
+        1,
+        any,
+    ])
 }
 
 fn double(rng: &mut Rng) -> u64 {
-    let any = rng.next();
+    let any = rng.number();
     let nan = 0x7ff0_0000_0000_0001;
-    rng.pick(&[0, 1 << 63, 0x7ff0 << 48, 0xfff0 << 48, nan, 0xfff8_0000_0000_1234, 1, any, any])
+    rng.pick(&[
+        0,
+        1 << 63,
+        0x7ff0 << 48,
+        0xfff0 << 48,
+        nan,
+        0xfff8_0000_0000_1234,
+        1,
+        any,
+        any,
+    ])
 }

@@ -20,14 +20,20 @@ impl Seen {
 }
 
 fn log(seen: &mut Seen, made: &Made) {
-    let Log { description, events } = &made.tree;
+    let Log {
+        description,
+        events,
+    } = &made.tree;
     seen.if_so(events.is_empty(), "description alone");
     seen.if_so(description.header > 19, "H above 19");
     seen.if_so(description.header == 19, "H 19");
     seen.if_so(description.entries.len() == 32, "32 entries");
     seen.if_so(description.entries.len() == 255, "255 entries");
     for kind in [19, 30, 31, 32] {
-        seen.if_so(description.entry(kind) > 10, &format!("longer post-header of {kind}"));
+        seen.if_so(
+            description.entry(kind) > 10,
+            &format!("longer post-header of {kind}"),
+        );
     }
     seen.add(format!("checksum kind {}", description.kind));
     let mut live = Vec::new();
@@ -85,7 +91,7 @@ fn map_seen(seen: &mut Seen, map: &Map) {
     seen.if_so(map.table.contains(&0), "name with a zero byte");
     seen.if_so(map.table.len() == 255, "name of 255 bytes");
     seen.if_so(!map.tail.is_empty(), "bytes after the nullable bits");
-    let spare = map.nullable.spare != 0 && map.columns.len() % 8 != 0;
+    let spare = map.nullable.spare != 0 && !map.columns.len().is_multiple_of(8);
     seen.if_so(spare, "spare nullable bits");
     for form in [map.count_form, map.metadata_form] {
         seen.add(format!("packed {form:?}"));
@@ -94,12 +100,18 @@ fn map_seen(seen: &mut Seen, map: &Map) {
 
 fn rows_seen(seen: &mut Seen, kind: u8, rows: &Rows, events: &[Event]) {
     seen.if_so(rows.rows.is_empty(), "no rows");
-    seen.if_so(rows.rows.is_empty() && rows.ends_statement(), "no rows, statement end");
+    seen.if_so(
+        rows.rows.is_empty() && rows.ends_statement(),
+        "no rows, statement end",
+    );
     seen.if_so(rows.rows.len() > 1, "many rows");
     seen.if_so(!rows.extra.is_empty(), "extra block");
     for used in &rows.used {
         seen.if_so(used.set.iter().any(|bit| !bit), "partial used set");
-        seen.if_so(used.set.len() % 8 != 0 && used.spare != 0, "spare used bits");
+        seen.if_so(
+            !used.set.len().is_multiple_of(8) && used.spare != 0,
+            "spare used bits",
+        );
     }
     let differ = rows.used.len() == 2 && rows.used[0].set != rows.used[1].set;
     seen.if_so(kind == 31 && differ, "used sets of an update differ");
@@ -128,7 +140,9 @@ fn cell_seen(seen: &mut Seen, cell: &Cell) {
         Value::Double(bits) => seen.if_so(f64::from_bits(*bits).is_nan(), "NaN, 8 bytes"),
         Value::Date { month, day, .. } => seen.if_so(*month == 0 || *day == 0, "month or day 0"),
         Value::Year(year) => seen.if_so(*year == 0, "year 0"),
-        Value::Time { negative, micros, .. } => {
+        Value::Time {
+            negative, micros, ..
+        } => {
             seen.if_so(*negative && *micros > 0, "negative time with a fraction");
         }
         Value::Text(part) => {
@@ -166,7 +180,11 @@ fn every_feature() {
     assert_eq!(kinds("packed"), 4);
     assert_eq!(kinds("checksum kind"), 2);
     assert_eq!(kinds("VARCHAR"), 4);
-    let missed: Vec<&String> =
-        seen.0.iter().filter(|(_, count)| **count == 0).map(|(what, _)| what).collect();
+    let missed: Vec<&String> = seen
+        .0
+        .iter()
+        .filter(|(_, count)| **count == 0)
+        .map(|(what, _)| what)
+        .collect();
     assert!(missed.is_empty(), "no log has: {missed:?}");
 }

@@ -39,5 +39,8 @@ pub fn readers() -> [&'static dyn Reader; 2] {
 /// log has a place far off, which no expected part has.
 fn part(log: &[u8], slice: &[u8]) -> Part {
     let place = (slice.as_ptr() as usize).wrapping_sub(log.as_ptr() as usize);
-    Part { place, bytes: slice.to_vec() }
+    Part {
+        place,
+        bytes: slice.to_vec(),
+    }
 }

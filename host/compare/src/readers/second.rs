@@ -19,7 +19,9 @@ impl Reader for Second {
     }
 
     fn change(&self, log: &[u8], k: usize) -> Result<Head, Refusal> {
-        second::change(log, k).map(|it| head(log, &it)).map_err(refusal)
+        second::change(log, k)
+            .map(|it| head(log, &it))
+            .map_err(refusal)
     }
 
     fn value(
@@ -29,7 +31,11 @@ impl Reader for Second {
         side: usize,
         column: usize,
     ) -> Option<Result<Cell, Refusal>> {
-        Some(second::value(log, k, side, column).map(|it| cell(log, it)).map_err(refusal))
+        Some(
+            second::value(log, k, side, column)
+                .map(|it| cell(log, it))
+                .map_err(refusal),
+        )
     }
 
     fn all(&self, log: &[u8]) -> Result<Truth, Refusal> {
@@ -39,16 +45,25 @@ impl Reader for Second {
             sides: [change.before(), change.after()]
                 .map(|side| side.map(|image| image.map(|it| cell(log, it)).collect())),
         });
-        Ok(Truth { counts: counts(reading.counts()), changes: changes.collect() })
+        Ok(Truth {
+            counts: counts(reading.counts()),
+            changes: changes.collect(),
+        })
     }
 }
 
 fn counts(it: second::Counts) -> Counts {
-    Counts { events: it.events, changes: it.changes }
+    Counts {
+        events: it.events,
+        changes: it.changes,
+    }
 }
 
 fn refusal(it: second::Refusal) -> Refusal {
-    Refusal { number: u32::from(it.number), place: it.place }
+    Refusal {
+        number: u32::from(it.number),
+        place: it.place,
+    }
 }
 
 fn head(log: &[u8], it: &second::Change) -> Head {
@@ -75,12 +90,22 @@ fn value(log: &[u8], it: second::Value) -> Value {
         V::Integer(number) => Value::Integer(number),
         V::Float(bits) => Value::Float(bits),
         V::Double(bits) => Value::Double(bits),
-        V::Date { year, month, day } => {
-            Value::Date { year: year.into(), month: month.into(), day: day.into() }
-        }
+        V::Date { year, month, day } => Value::Date {
+            year: year.into(),
+            month: month.into(),
+            day: day.into(),
+        },
         V::Year(year) => Value::Year(year.into()),
         V::Timestamp { seconds, micros } => Value::Timestamp { seconds, micros },
-        V::Datetime { year, month, day, hour, minute, second, micros } => Value::DateTime {
+        V::Datetime {
+            year,
+            month,
+            day,
+            hour,
+            minute,
+            second,
+            micros,
+        } => Value::DateTime {
             year: year.into(),
             month: month.into(),
             day: day.into(),
@@ -89,7 +114,13 @@ fn value(log: &[u8], it: second::Value) -> Value {
             second: second.into(),
             micros,
         },
-        V::Time { negative, hour, minute, second, micros } => Value::Time {
+        V::Time {
+            negative,
+            hour,
+            minute,
+            second,
+            micros,
+        } => Value::Time {
             negative,
             hour: hour.into(),
             minute: minute.into(),

@@ -43,7 +43,12 @@ impl Reader for Verified {
             1 => Side::After,
             _ => return None,
         };
-        Some(Log::new(log).value(k, side, column).map(|it| cell(log, it)).map_err(refusal))
+        Some(
+            Log::new(log)
+                .value(k, side, column)
+                .map(|it| cell(log, it))
+                .map_err(refusal),
+        )
     }
 
     fn all(&self, log: &[u8]) -> Result<Truth, Refusal> {
@@ -60,7 +65,10 @@ impl Reader for Verified {
             sides: [change.before(), change.after()]
                 .map(|side| side.map(|image| image.cells().map(|it| cell(log, it)).collect())),
         });
-        Ok(Truth { counts, changes: changes.collect() })
+        Ok(Truth {
+            counts,
+            changes: changes.collect(),
+        })
     }
 
     /// Names and texts by their own questions, and what stands at an entry.
@@ -74,7 +82,9 @@ impl Reader for Verified {
             of.text(beyond, Side::After, 0),
         ];
         if empty.iter().any(|part| !part.is_empty()) {
-            return Err(format!("a part of change {beyond}, which is refused, isn't empty"));
+            return Err(format!(
+                "a part of change {beyond}, which is refused, isn't empty"
+            ));
         }
         for change in truth.iter().flat_map(|it| &it.changes) {
             at_entry(log, change)?;
@@ -122,7 +132,10 @@ fn at_entry(log: &[u8], change: &Change) -> Result<(), String> {
         table: part(log, of.table_name_at(&entry)),
     });
     if head.as_ref() != Some(&change.head) {
-        return Err(format!("at entry {entry:?}: {head:?}, expected {:?}", change.head));
+        return Err(format!(
+            "at entry {entry:?}: {head:?}, expected {:?}",
+            change.head
+        ));
     }
     for (side, cells) in [Side::Before, Side::After].into_iter().zip(&change.sides) {
         for (column, expected) in cells.iter().flatten().enumerate() {
@@ -135,18 +148,26 @@ fn at_entry(log: &[u8], change: &Change) -> Result<(), String> {
         }
         let beyond = cells.as_ref().map_or(0, Vec::len);
         if of.value_at(&entry, side, beyond).is_some() {
-            return Err(format!("at entry {entry:?}, {side:?}: column {beyond} is there"));
+            return Err(format!(
+                "at entry {entry:?}, {side:?}: column {beyond} is there"
+            ));
         }
     }
     Ok(())
 }
 
 fn counts(it: tegmeadow::Counts) -> Counts {
-    Counts { events: it.events, changes: it.changes }
+    Counts {
+        events: it.events,
+        changes: it.changes,
+    }
 }
 
 fn refusal(it: tegmeadow::Refusal) -> Refusal {
-    Refusal { number: it.number, place: it.place }
+    Refusal {
+        number: it.number,
+        place: it.place,
+    }
 }
 
 fn cell(log: &[u8], it: tegmeadow::Cell) -> Cell {
@@ -163,9 +184,16 @@ fn value(log: &[u8], it: tegmeadow::Value) -> Value {
         V::Integer(number) => Value::Integer(number),
         V::Float(it) => Value::Float(it.to_bits()),
         V::Double(it) => Value::Double(it.to_bits()),
-        V::Date(it) => Value::Date { year: it.year, month: it.month.into(), day: it.day.into() },
+        V::Date(it) => Value::Date {
+            year: it.year,
+            month: it.month.into(),
+            day: it.day.into(),
+        },
         V::Year(year) => Value::Year(year),
-        V::Timestamp(it) => Value::Timestamp { seconds: it.seconds, micros: it.microseconds },
+        V::Timestamp(it) => Value::Timestamp {
+            seconds: it.seconds,
+            micros: it.microseconds,
+        },
         V::Datetime(it) => Value::DateTime {
             year: it.date.year,
             month: it.date.month.into(),

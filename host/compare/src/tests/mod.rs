@@ -12,13 +12,17 @@ use logs::{valid, Made, Shape};
 
 /// How many times a thing that is done `count` times is done now.
 fn rounds(count: u64) -> u64 {
-    let factor = std::env::var("TEGMEADOW_ROUNDS").ok().and_then(|it| it.parse().ok());
+    let factor = std::env::var("TEGMEADOW_ROUNDS")
+        .ok()
+        .and_then(|it| it.parse().ok());
     count * factor.unwrap_or(1)
 }
 
 /// Asks both readers everything, and fails with `what` if one is wrong.
 fn ask(asker: &mut Asker, what: &dyn Fn() -> String, log: &[u8], known: Option<&Known>) -> Known {
-    asker.compare(log, known).unwrap_or_else(|why| panic!("{}: {why}", what()))
+    asker
+        .compare(log, known)
+        .unwrap_or_else(|why| panic!("{}: {why}", what()))
 }
 
 /// Bytes walked by single questions, for made logs: all values of most.

@@ -8,9 +8,14 @@ use logs::{changed_bytes, cuts, damage, touched, valid, Made, Rng, Shape};
 fn valid_logs() {
     let mut asker = Asker::new(WALKED);
     let mut changes = 0;
-    every_shape(300, 0, |seed, made| {
+    every_shape(150, 0, |seed, made| {
         let known = Ok(made.truth.clone());
-        let _ = ask(&mut asker, &|| format!("valid {seed}"), &made.bytes, Some(&known));
+        let _ = ask(
+            &mut asker,
+            &|| format!("valid {seed}"),
+            &made.bytes,
+            Some(&known),
+        );
         changes += made.truth.counts.changes;
     });
     assert!(changes > 0);
@@ -22,7 +27,9 @@ fn damage_all(asker: &mut Asker, seed: u64, made: &Made) {
     for number in 2..=18 {
         // not every throw of the dice finds something to damage
         for _ in 0..4 {
-            let Some(damaged) = damage(&mut rng, made, number) else { continue };
+            let Some(damaged) = damage(&mut rng, made, number) else {
+                continue;
+            };
             let what = || format!("damaged {seed} by {number}");
             let _ = ask(asker, &what, &damaged.bytes, Some(&Err(damaged.expected)));
             break;
@@ -37,16 +44,24 @@ fn damage_all(asker: &mut Asker, seed: u64, made: &Made) {
 #[test]
 fn damaged_logs() {
     let mut asker = Asker::new(WALKED_BRIEFLY);
-    every_shape(500, 1 << 32, |seed, made| {
+    every_shape(300, 1 << 32, |seed, made| {
         damage_all(&mut asker, seed, made);
         // 19 and 20 come from the questions of a log that is accepted
         let known = Ok(made.truth.clone());
-        let _ = ask(&mut asker, &|| format!("whole {seed}"), &made.bytes, Some(&known));
+        let _ = ask(
+            &mut asker,
+            &|| format!("whole {seed}"),
+            &made.bytes,
+            Some(&known),
+        );
     });
     let counts: Vec<(usize, u64)> = asker.refusals.into_iter().enumerate().skip(2).collect();
     println!("refusals and how often: {counts:?}");
     let missed: Vec<_> = counts.iter().filter(|(_, count)| *count == 0).collect();
-    assert!(missed.is_empty(), "refusals that were never reached: {missed:?}");
+    assert!(
+        missed.is_empty(),
+        "refusals that were never reached: {missed:?}"
+    );
 }
 
 /// Small logs that have changes.
@@ -66,7 +81,7 @@ fn small_logs(count: u64) -> Vec<(u64, Made)> {
 #[test]
 fn cut_logs() {
     let mut asker = Asker::new(WALKED_BRIEFLY);
-    for (seed, made) in small_logs(300) {
+    for (seed, made) in small_logs(150) {
         for cut in cuts(&made) {
             let what = || format!("small {seed} cut to {}", cut.length);
             let answer = ask(&mut asker, &what, &made.bytes[..cut.length], None);
@@ -77,13 +92,18 @@ fn cut_logs() {
 
 /// A few other values of a byte.
 pub fn others(rng: &mut Rng, byte: u8) -> [u8; 4] {
-    [byte ^ 1, byte ^ 0x80, !byte, byte ^ (rng.range(1, 255) as u8)]
+    [
+        byte ^ 1,
+        byte ^ 0x80,
+        !byte,
+        byte ^ (rng.range(1, 255) as u8),
+    ]
 }
 
 #[test]
 fn changed_logs() {
     let mut asker = Asker::new(WALKED_BRIEFLY);
-    for (seed, made) in small_logs(120) {
+    for (seed, made) in small_logs(60) {
         let mut rng = Rng::new(seed);
         let mut log = made.bytes.clone();
         for at in 0..log.len() {

@@ -10,7 +10,10 @@ use logs::Rng;
 /// The real logs, of which the evidence has some already.
 fn real_logs() -> Vec<PathBuf> {
     let here = Path::new(env!("CARGO_MANIFEST_DIR"));
-    let folders = [here.join("data/real"), here.join("../../crates/evidence/data/real")];
+    let folders = [
+        here.join("data/real"),
+        here.join("../../crates/evidence/data/real"),
+    ];
     let mut logs: Vec<PathBuf> = folders
         .iter()
         .flat_map(|folder| std::fs::read_dir(folder).expect("a folder of real logs"))
@@ -42,7 +45,7 @@ fn real_logs_cut_and_changed() {
     for path in real_logs() {
         let whole = std::fs::read(&path).expect("a real log");
         let mut rng = Rng::new(whole.len() as u64);
-        for _ in 0..rounds(200) {
+        for _ in 0..rounds(100) {
             let at = rng.below(whole.len());
             let what = || format!("{} at {at}", path.display());
             let _ = ask(&mut asker, &what, &whole[..at], None);
