@@ -1,8 +1,9 @@
 //! All questions of the crate, of every log that the independent account
 //! (crates/evidence/stdout) speaks of, held to what it says.
 
+mod evidence;
+
 use std::fmt::Write;
-use std::path::{Path, PathBuf};
 use tegmeadow::{Cell, Counts, Log, Refusal, Side, Value};
 
 /// Logs that the account has no listing of, and those of which it has no more.
@@ -10,26 +11,13 @@ const LONGEST: usize = 65_536;
 const FEW: usize = 32_768;
 const MARK: u32 = 0xa5a5_a5a5;
 
-fn evidence() -> PathBuf {
-    Path::new(env!("CARGO_MANIFEST_DIR")).join("../../crates/evidence")
-}
-
-/// The account's sections: a log's name and the lines about it. A side that is
-/// none can't be asked for in Rust, so its lines are left out.
-fn sections() -> Vec<(String, String)> {
-    let text = std::fs::read_to_string(evidence().join("stdout")).expect("the account");
-    let mut sections: Vec<(String, String)> = Vec::new();
-    for line in text.lines() {
-        let side = || line.split(' ').nth(2);
-        if let Some(name) = line.strip_prefix("== ") {
-            sections.push((name.to_string(), String::new()));
-        } else if !(line.starts_with("value ") && side() == Some("2")) {
-            let (_, lines) = sections.last_mut().expect("a section");
-            lines.push_str(line);
-            lines.push('\n');
-        }
-    }
-    sections
+/// The lines about a log. A side that is none can't be asked for in Rust, so
+/// its lines are left out.
+fn expected(lines: &[String]) -> String {
+    let is_asked = |line: &&String| {
+        !line.starts_with("value ") || line.split(' ').nth(2) != Some("2")
+    };
+    lines.iter().filter(is_asked).flat_map(|line| [line.as_str(), "\n"]).collect()
 }
 
 fn hex(bytes: &[u8]) -> String {
@@ -147,16 +135,10 @@ fn account(bytes: &[u8]) -> String {
     out
 }
 
-fn read(name: &str) -> Vec<u8> {
-    std::fs::read(evidence().join("data").join(name)).unwrap_or_else(|e| panic!("{name}: {e}"))
-}
-
 #[test]
 fn every_question_answers_as_the_account() {
-    let sections = sections();
-    assert!(sections.len() > 400);
-    for (name, expected) in sections {
-        assert_eq!(account(&read(&name)), expected, "{name}");
+    for (name, lines) in evidence::sections() {
+        assert_eq!(account(&evidence::read(&name)), expected(&lines), "{name}");
     }
 }
 
@@ -164,8 +146,8 @@ fn every_question_answers_as_the_account() {
 #[test]
 fn the_changes_answer_as_the_questions() {
     let mut seen = 0;
-    for (name, _) in sections() {
-        let bytes = read(&name);
+    for (name, _) in evidence::sections() {
+        let bytes = evidence::read(&name);
         let log = Log::new(&bytes);
         let Ok(changes) = log.changes() else { continue };
         assert_eq!(changes.len(), changes.counts().changes, "{name}");

@@ -1,7 +1,8 @@
 //! The header in C and C++, and C programs over the archive.
 
+mod evidence;
+
 use std::fs::File;
-use std::io::Read;
 use std::path::{Path, PathBuf};
 use std::process::{Command, Stdio};
 use tegmeadow::{Kind, Log};
@@ -72,21 +73,20 @@ fn the_example_lists_a_log_in_c_and_in_cpp() {
 #[test]
 fn the_questions_in_c_answer_as_the_account() {
     let program = compile(&C, "tests/account.c");
-    let evidence = root().join("crates/evidence");
-    let names = File::open(evidence.join("args")).expect("the names of the logs");
+    let names = File::open(evidence::folder().join("args")).expect("the names of the logs");
     let run = Command::new(program)
-        .current_dir(evidence.join("data"))
+        .current_dir(evidence::folder().join("data"))
         .stdin(Stdio::from(names))
         .output()
         .expect("the program runs");
     assert!(run.status.success());
-    let mut expected = Vec::new();
-    let mut account = File::open(evidence.join("stdout")).expect("the account");
-    account.read_to_end(&mut expected).expect("the account");
-    let lines = |bytes: &[u8]| String::from_utf8_lossy(bytes).lines().map(String::from).collect();
-    let (found, expected): (Vec<String>, Vec<String>) = (lines(&run.stdout), lines(&expected));
-    for (number, (found, expected)) in found.iter().zip(&expected).enumerate() {
-        assert_eq!(found, expected, "line {}", number + 1);
+    let text = String::from_utf8(run.stdout).expect("text");
+    let mut found = text.lines();
+    for (name, lines) in evidence::sections() {
+        assert_eq!(found.next(), Some(format!("== {name}").as_str()));
+        for line in lines {
+            assert_eq!(found.next(), Some(line.as_str()), "{name}");
+        }
     }
-    assert_eq!(found.len(), expected.len());
+    assert_eq!(found.next(), None);
 }
