@@ -149,8 +149,8 @@ fn the_changes_answer_as_the_questions() {
     for (name, _) in evidence::sections() {
         let bytes = evidence::read(&name);
         let log = Log::new(&bytes);
-        let Ok(changes) = log.changes() else { continue };
-        assert_eq!(changes.len(), changes.counts().changes, "{name}");
+        let (Ok(counts), Ok(changes)) = (log.check(), log.changes()) else { continue };
+        assert_eq!(changes.len(), counts.changes, "{name}");
         // held, so that what was given out must last
         let held: Vec<_> = changes.collect();
         for (k, change) in held.iter().enumerate() {
@@ -180,4 +180,18 @@ fn a_refusal_speaks_the_papers_words() {
     let as_error: &dyn std::error::Error = &refusal;
     assert_eq!(as_error.to_string(), refusal.to_string());
     assert_eq!(Log::new(b"").check(), Err(Refusal { number: 2, place: 0 }));
+}
+
+#[test]
+fn a_part_of_a_listing_gives_its_changes() {
+    let bytes = evidence::read("real/mysql-part-crc32.binlog");
+    let log = Log::new(&bytes);
+    let listing = log.listing().expect("a listing");
+    let all: Vec<_> = listing.entries().collect();
+    assert!(all.len() > 10);
+    let entries = |some| -> Vec<_> { log.changes_in(&listing, some).map(|it| it.entry()).collect() };
+    assert_eq!(entries(0..all.len()), all);
+    assert_eq!(entries(3..7), all[3..7]);
+    assert_eq!(entries(all.len() - 1..usize::MAX), all[all.len() - 1..]);
+    assert_eq!(entries(usize::MAX..usize::MAX), []);
 }

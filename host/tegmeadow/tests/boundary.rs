@@ -101,7 +101,7 @@ fn in_rust(text: &str) -> Vec<Declaration> {
     let (_, rest) = text.split_once("extern \"C\" {").expect("a foreign block");
     let (block, _) = rest.split_once("\n}").expect("its end");
     let one = |text: &str| {
-        let (before, inside, after) = around_parentheses(text);
+        let (before, inside, after) = around_parentheses(text.trim_end().trim_end_matches(';'));
         let parameter = |text: &str| {
             let (name, meant) = text.split_once(':').expect("a type");
             (name.trim().to_string(), meant.trim().to_string())
@@ -113,7 +113,7 @@ fn in_rust(text: &str) -> Vec<Declaration> {
             result: after.strip_prefix("->").map_or("()", str::trim).to_string(),
         }
     };
-    block.split(";\n").filter(|text| text.contains('(')).map(one).collect()
+    block.split_inclusive(";\n").filter(|text| text.contains('(')).map(one).collect()
 }
 
 #[test]

@@ -46,14 +46,14 @@ pub fn refused(source: &Source, bytes: &[u8], refusal: &Refusal) -> String {
 
 fn accepted_json(source: &Source, counts: &Counts, out: &mut Output) {
     let Counts { events, changes } = counts;
-    out.bytes(b"{\"file\":");
+    out.signs(b"{\"file\":");
     json::string(out, &source.name());
     let _ = writeln!(out, ",\"accepted\":true,\"events\":{events},\"changes\":{changes}}}");
 }
 
 fn refused_json(source: &Source, bytes: &[u8], refusal: &Refusal, out: &mut Output) {
     let Refusal { number, place } = *refusal;
-    out.bytes(b"{\"file\":");
+    out.signs(b"{\"file\":");
     json::string(out, &source.name());
     let _ = write!(out, ",\"accepted\":false,\"refusal\":{number},\"meaning\":");
     json::string(out, refusal.meaning());
@@ -64,5 +64,5 @@ fn refused_json(source: &Source, bytes: &[u8], refusal: &Refusal, out: &mut Outp
             let _ = write!(out, ",\"event_name\":\"{name}\"");
         }
     }
-    out.bytes(b"}\n");
+    out.signs(b"}\n");
 }

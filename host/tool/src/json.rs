@@ -10,7 +10,7 @@ use tegmeadow::{Cell, Change, ColumnType, Image, Kind, Value};
 const DIGITS: u8 = 6;
 
 pub fn change(k: usize, change: &Change<'_>, table: &Table<'_>, out: &mut Output) {
-    out.bytes(b"{\"change\":");
+    out.signs(b"{\"change\":");
     out.unsigned(k as u64);
     out.bytes(match change.kind() {
         Kind::Write => b",\"kind\":\"write\"",
@@ -18,15 +18,15 @@ pub fn change(k: usize, change: &Change<'_>, table: &Table<'_>, out: &mut Output
         Kind::Delete => b",\"kind\":\"delete\"",
     });
     let entry = change.entry();
-    out.bytes(b",\"event\":");
+    out.signs(b",\"event\":");
     out.unsigned(entry.event() as u64);
-    out.bytes(b",\"map\":");
+    out.signs(b",\"map\":");
     out.unsigned(entry.map() as u64);
-    out.bytes(b",\"table_id\":");
+    out.signs(b",\"table_id\":");
     out.unsigned(change.table_id());
     bytes(table.database, b",\"database\":", b",\"database_hex\":\"", out);
     bytes(table.name, b",\"table\":", b",\"table_hex\":\"", out);
-    out.bytes(b",\"columns\":");
+    out.signs(b",\"columns\":");
     out.unsigned(change.columns() as u64);
     if let Some(before) = change.before() {
         image(b",\"before\":[", before, out);
@@ -34,7 +34,7 @@ pub fn change(k: usize, change: &Change<'_>, table: &Table<'_>, out: &mut Output
     if let Some(after) = change.after() {
         image(b",\"after\":[", after, out);
     }
-    out.bytes(b"}\n");
+    out.signs(b"}\n");
 }
 
 /// The columns that the image has.
@@ -49,12 +49,12 @@ fn image(key: &[u8], image: Image<'_, '_>, out: &mut Output) {
         first = false;
         out.unsigned(column as u64 + 1);
         if let Cell::Stored(kind, value) = cell {
-            out.bytes(b",\"type\":\"");
+            out.signs(b",\"type\":\"");
             out.bytes(type_name(kind));
             out.byte(b'"');
             stored(value, out);
         } else {
-            out.bytes(b",\"value\":null");
+            out.signs(b",\"value\":null");
         }
         out.byte(b'}');
     }
@@ -83,18 +83,18 @@ fn type_name(kind: ColumnType) -> &'static [u8] {
 fn stored(value: Value<'_>, out: &mut Output) {
     match value {
         Value::Integer(n) => {
-            out.bytes(b",\"value\":");
+            out.signs(b",\"value\":");
             out.signed(n);
         }
         Value::Float(n) => float(n.is_finite(), n, n.to_bits().into(), out),
         Value::Double(n) => float(n.is_finite(), n, n.to_bits(), out),
         Value::Date(date) => quoted(out, |out| sql::date(date, b'-', out)),
         Value::Year(year) => {
-            out.bytes(b",\"value\":");
+            out.signs(b",\"value\":");
             out.unsigned(year.into());
         }
         Value::Timestamp(t) => {
-            out.bytes(b",\"value\":");
+            out.signs(b",\"value\":");
             out.unsigned(t.seconds.into());
             out.fraction(t.microseconds, DIGITS);
         }
@@ -113,7 +113,7 @@ fn float(finite: bool, n: impl std::fmt::Debug, bits: u64, out: &mut Output) {
 }
 
 fn quoted(out: &mut Output, write: impl FnOnce(&mut Output)) {
-    out.bytes(b",\"value\":\"");
+    out.signs(b",\"value\":\"");
     write(out);
     out.byte(b'"');
 }
@@ -153,10 +153,10 @@ fn is_escaped(byte: u8) -> bool {
 
 fn escaped(byte: u8, out: &mut Output) {
     match byte {
-        b'"' => out.bytes(b"\\\""),
-        b'\\' => out.bytes(b"\\\\"),
+        b'"' => out.signs(b"\\\""),
+        b'\\' => out.signs(b"\\\\"),
         0..=0x1f => {
-            out.bytes(b"\\u00");
+            out.signs(b"\\u00");
             out.hex(&[byte]);
         }
         _ => out.byte(byte),

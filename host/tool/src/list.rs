@@ -57,9 +57,9 @@ fn plain(entry: &Entry, out: &mut Output) {
 }
 
 fn object(k: usize, entry: &Entry, out: &mut Output) {
-    out.bytes(b"{\"change\":");
+    out.signs(b"{\"change\":");
     out.unsigned(k as u64);
-    out.bytes(b",\"type\":");
+    out.signs(b",\"type\":");
     out.unsigned(entry.event_type().into());
     let [_, event, map, ..] = entry.0;
     for (key, place) in [(&b"event"[..], event), (b"map", map)] {
@@ -67,15 +67,15 @@ fn object(k: usize, entry: &Entry, out: &mut Output) {
     }
     member(b"before", entry.before(), out);
     member(b"after", entry.after(), out);
-    out.bytes(b"}\n");
+    out.signs(b"}\n");
 }
 
 fn member(key: &[u8], place: Option<usize>, out: &mut Output) {
-    out.bytes(b",\"");
+    out.signs(b",\"");
     out.bytes(key);
-    out.bytes(b"\":");
+    out.signs(b"\":");
     match place {
         Some(place) => out.unsigned(place as u64),
-        None => out.bytes(b"null"),
+        None => out.signs(b"null"),
     }
 }

@@ -3,11 +3,13 @@
 mod args;
 mod check;
 mod event;
+mod float;
 mod input;
 mod json;
 mod layout;
 mod list;
 mod output;
+mod parallel;
 mod progress;
 mod show;
 mod sql;

@@ -6,11 +6,16 @@ use crate::json;
 use crate::layout::{self, Partition};
 use crate::list;
 use crate::output::Output;
+use crate::parallel;
 use crate::progress::Progress;
-use crate::sql;
+use crate::sql::{self, Start};
 use crate::Status;
 use std::io;
-use tegmeadow::{Change, Log};
+use std::ops::Range;
+use tegmeadow::{Change, Listing, Log};
+
+/// How many bytes of the log are shown as one piece of work.
+const SPAN: usize = 1 << 17;
 
 /// What changes of one table map have in common, kept from one to the next.
 pub struct Table<'a> {
@@ -18,33 +23,53 @@ pub struct Table<'a> {
     map: usize,
     pub database: &'a [u8],
     pub name: &'a [u8],
-    /// The fraction digits of each column.
+    columns: Vec<Column>,
+    /// Kept for its memory.
     digits: Vec<u8>,
+}
+
+/// What lines about a column have in common.
+pub struct Column {
+    pub start: Start,
+    /// The fraction digits of its times.
+    pub digits: u8,
 }
 
 impl<'a> Table<'a> {
     fn none() -> Table<'a> {
-        Table { map: 0, database: &[], name: &[], digits: Vec::new() }
+        Table { map: 0, database: &[], name: &[], columns: Vec::new(), digits: Vec::new() }
     }
 
     /// Makes this the table of the change.
     #[inline]
     fn turn_to(&mut self, log: &[u8], change: &Change<'a>) {
-        let map = change.entry().map();
-        if map != self.map {
-            self.map = map;
-            self.database = change.database();
-            self.name = change.table();
-            // an accepted log's map can be read; six digits show all there is
-            if layout::fraction_digits(log, map, &mut self.digits).is_none() {
-                self.digits.clear();
-            }
+        if change.entry().map() != self.map {
+            self.turn(log, change);
+        }
+    }
+
+    fn turn(&mut self, log: &[u8], change: &Change<'a>) {
+        self.map = change.entry().map();
+        self.database = change.database();
+        self.name = change.table();
+        // an accepted log's map can be read; six digits show all there is
+        if layout::fraction_digits(log, self.map, &mut self.digits).is_none() {
+            self.digits.clear();
+        }
+        self.digits.resize(change.columns(), 6);
+        self.columns.truncate(change.columns());
+        while self.columns.len() < change.columns() {
+            let start = Start::of(self.columns.len());
+            self.columns.push(Column { start, digits: 0 });
+        }
+        for (column, digits) in self.columns.iter_mut().zip(&self.digits) {
+            column.digits = *digits;
         }
     }
 
     #[inline]
-    pub fn digits(&self, column: usize) -> u8 {
-        self.digits.get(column).copied().unwrap_or(6)
+    pub fn columns(&self) -> &[Column] {
+        &self.columns
     }
 }
 
@@ -64,9 +89,40 @@ pub fn run(
         }
     };
     progress.has_listed(listing.counts().changes);
+    let work = |span: Range<usize>, out: &mut Output| some(bytes, &listing, span, as_json, out);
+    parallel::in_order(&spans(&listing), out, &work, |done| progress.has_done(done))?;
+    Ok(Status::Accepted)
+}
+
+/// The changes in spans of about as many bytes of the log each.
+fn spans(listing: &Listing) -> Vec<Range<usize>> {
+    let mut spans = Vec::new();
+    let (mut first, mut place) = (0, 0);
+    for (k, entry) in listing.entries().enumerate() {
+        let image = entry.before().or(entry.after()).unwrap_or_default();
+        if image >= place + SPAN {
+            if k > first {
+                spans.push(first..k);
+            }
+            (first, place) = (k, image);
+        }
+    }
+    spans.push(first..listing.counts().changes);
+    spans
+}
+
+/// Shows the changes of a span.
+fn some(
+    bytes: &[u8],
+    listing: &Listing,
+    span: Range<usize>,
+    as_json: bool,
+    out: &mut Output,
+) -> io::Result<()> {
+    let before = span.start.checked_sub(1).and_then(|last| listing.entry(last));
+    let mut event = before.map_or(0, |entry| entry.event());
     let mut table = Table::none();
-    let mut event = 0;
-    for (k, change) in Log::new(bytes).changes_of(listing).enumerate() {
+    for (k, change) in span.clone().zip(Log::new(bytes).changes_in(listing, span)) {
         table.turn_to(bytes, &change);
         if as_json {
             json::change(k, &change, &table, out);
@@ -78,9 +134,8 @@ pub fn run(
             sql::change(&change, &table, out);
         }
         out.settle()?;
-        progress.has_done(k);
     }
-    Ok(Status::Accepted)
+    Ok(())
 }
 
 /// The line that comes once before the changes of an event of a partitioned table.
@@ -88,16 +143,16 @@ fn partition(bytes: &[u8], change: &Change<'_>, out: &mut Output) {
     let entry = change.entry();
     let kind = entry.event_type() as u8;
     let Some(partition) = layout::partition(bytes, entry.event(), kind) else { return };
-    out.bytes(b"### Extra row info for partitioning: ");
+    out.signs(b"### Extra row info for partitioning: ");
     match partition {
         Partition::One(number) => {
-            out.bytes(b"partition: ");
+            out.signs(b"partition: ");
             out.unsigned(number);
         }
         Partition::Move { source, target } => {
-            out.bytes(b"source_partition: ");
+            out.signs(b"source_partition: ");
             out.unsigned(source);
-            out.bytes(b" target_partition: ");
+            out.signs(b" target_partition: ");
             out.unsigned(target);
         }
     }

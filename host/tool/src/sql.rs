@@ -1,68 +1,99 @@
-//! A change in the `###` form of `mysqlbinlog -v` (MySQL 9.7), byte for byte.
+//! A change in the `###` form of `mysqlbinlog -v` (MySQL 9.7), sign for sign.
 
-use crate::output::Output;
+use crate::float;
+use crate::output::{pair, Output};
 use crate::show::Table;
-use std::fmt::{self, Write};
 use tegmeadow::{Cell, Change, ColumnType, Image, Kind, Value};
 
 pub fn change(change: &Change<'_>, table: &Table<'_>, out: &mut Output) {
-    out.bytes(match change.kind() {
-        Kind::Write => b"### INSERT INTO ",
-        Kind::Update => b"### UPDATE ",
-        Kind::Delete => b"### DELETE FROM ",
-    });
+    match change.kind() {
+        Kind::Write => out.signs(b"### INSERT INTO "),
+        Kind::Update => out.signs(b"### UPDATE "),
+        Kind::Delete => out.signs(b"### DELETE FROM "),
+    }
     name(table.database, out);
     out.byte(b'.');
     name(table.name, out);
-    out.byte(b'\n');
     if let Some(before) = change.before() {
-        out.bytes(b"### WHERE\n");
+        out.signs(b"\n### WHERE");
         image(before, table, out);
     }
     if let Some(after) = change.after() {
-        out.bytes(b"### SET\n");
+        out.signs(b"\n### SET");
         image(after, table, out);
     }
+    out.byte(b'\n');
 }
 
 /// A name in backticks, those in it doubled.
 fn name(bytes: &[u8], out: &mut Output) {
     out.byte(b'`');
-    for &byte in bytes {
-        if byte == b'`' {
-            out.byte(b'`');
+    if bytes.contains(&b'`') {
+        for &byte in bytes {
+            if byte == b'`' {
+                out.byte(b'`');
+            }
+            out.byte(byte);
         }
-        out.byte(byte);
+    } else {
+        out.bytes(bytes);
     }
     out.byte(b'`');
 }
 
-/// A line for each column that the image has, counted from 1.
-#[inline]
-fn image(image: Image<'_, '_>, table: &Table<'_>, out: &mut Output) {
-    for (column, cell) in image.cells().enumerate() {
-        if cell == Cell::Absent {
-            continue;
+/// How a line of a column starts, with the end of the line before it.
+#[derive(Clone, Copy)]
+pub struct Start {
+    signs: [u8; 16],
+    length: u8,
+}
+
+impl Start {
+    /// Columns count from 1.
+    pub fn of(column: usize) -> Start {
+        let mut signs = *b"\n###   @        ";
+        let number = (column + 1).to_string();
+        let tail = number.bytes().chain([b'=']);
+        let mut length = 8;
+        for (room, sign) in signs.iter_mut().skip(8).zip(tail) {
+            *room = sign;
+            length += 1;
         }
-        out.bytes(b"###   @");
-        out.unsigned(column as u64 + 1);
-        out.byte(b'=');
-        if let Cell::Stored(kind, value) = cell {
-            stored(kind, value, table.digits(column), out);
-        } else {
-            out.bytes(b"NULL");
-        }
-        out.byte(b'\n');
+        Start { signs, length }
     }
 }
 
-#[inline]
+/// A line for each column that the image has.
+fn image(image: Image<'_, '_>, table: &Table<'_>, out: &mut Output) {
+    let mut columns = table.columns().iter();
+    image.cells().for_each(|cell| {
+        let Some(column) = columns.next() else { return };
+        match cell {
+            Cell::Absent => {}
+            Cell::Null => {
+                start(&column.start, out);
+                out.signs(b"NULL");
+            }
+            Cell::Stored(kind, value) => {
+                start(&column.start, out);
+                stored(kind, value, column.digits, out);
+            }
+        }
+    });
+}
+
+#[inline(always)]
+fn start(start: &Start, out: &mut Output) {
+    out.some(&start.signs, usize::from(start.length));
+}
+
+#[inline(always)]
 fn stored(kind: ColumnType, value: Value<'_>, digits: u8, out: &mut Output) {
     match value {
         Value::Integer(n) => integer(kind, n, out),
         Value::Float(n) => float(n, out),
         Value::Double(n) => {
-            general(n, 20, out);
+            float::general(n, 20, out);
         }
         Value::Date(d) => {
             out.byte(b'\'');
@@ -70,7 +101,7 @@ fn stored(kind: ColumnType, value: Value<'_>, digits: u8, out: &mut Output) {
             out.byte(b'\'');
         }
         // the program adds 1900 to a year 0 too
-        Value::Year(0) => out.bytes(b"1900"),
+        Value::Year(0) => out.signs(b"1900"),
         Value::Year(year) => out.unsigned(year.into()),
         Value::Timestamp(t) => {
             out.unsigned(t.seconds.into());
@@ -91,7 +122,7 @@ fn stored(kind: ColumnType, value: Value<'_>, digits: u8, out: &mut Output) {
 }
 
 /// A negative number is followed by what its bytes are without a sign.
-#[inline]
+#[inline(always)]
 fn integer(kind: ColumnType, n: i64, out: &mut Output) {
     out.signed(n);
     if n < 0 {
@@ -102,20 +133,24 @@ fn integer(kind: ColumnType, n: i64, out: &mut Output) {
             ColumnType::Long => 32,
             _ => 64,
         };
-        out.bytes(b" (");
+        out.signs(b" (");
         out.unsigned(n as u64 & (u64::MAX >> (64 - bits)));
         out.byte(b')');
     }
 }
 
-/// Year, month and day with a sign between them.
+/// Year, month and day with a sign between them. A year above 9999, which no
+/// server writes, has five digits.
 #[inline]
 pub fn date(date: tegmeadow::Date, between: u8, out: &mut Output) {
-    out.four(date.year.into());
-    out.byte(between);
-    out.two(date.month.into());
-    out.byte(between);
-    out.two(date.day.into());
+    let [a, b] = pair(date.year / 100);
+    let [c, d] = pair(date.year);
+    let [e, f] = pair(date.month.into());
+    let [g, h] = pair(date.day.into());
+    if date.year > 9999 {
+        out.unsigned((date.year / 10_000).into());
+    }
+    out.signs(&[a, b, c, d, between, e, f, between, g, h]);
 }
 
 #[inline]
@@ -137,57 +172,71 @@ pub fn time(t: tegmeadow::Time, digits: u8, out: &mut Output) {
 
 #[inline]
 fn clock(hour: u32, minute: u8, second: u8, out: &mut Output) {
-    match hour {
-        0..=99 => out.two(hour.into()),
-        _ => out.unsigned(hour.into()),
+    if hour > 99 {
+        out.unsigned((hour / 100).into());
     }
-    out.byte(b':');
-    out.two(minute.into());
-    out.byte(b':');
-    out.two(second.into());
+    let ([a, b], [c, d], [e, f]) = (pair(hour), pair(minute.into()), pair(second.into()));
+    out.signs(&[a, b, b':', c, d, b':', e, f]);
 }
 
 /// Text in quotes. Runs with nothing to escape are copied whole.
 #[inline]
 fn text(bytes: &[u8], out: &mut Output) {
     out.byte(b'\'');
-    for run in bytes.chunks(32) {
-        // no early end, so that it is done many bytes at a time
-        if run.iter().fold(false, |found, &byte| found | is_escaped(byte)) {
+    let (runs, tail) = bytes.as_chunks::<8>();
+    for run in runs {
+        if has_escaped(u64::from_le_bytes(*run)) {
             run.iter().for_each(|&byte| escaped(byte, out));
         } else {
-            out.bytes(run);
+            out.signs(run);
         }
     }
+    tail.iter().for_each(|&byte| escaped(byte, out));
     out.byte(b'\'');
 }
 
-fn is_escaped(byte: u8) -> bool {
-    (byte < 0x20) | (byte == b'\'') | (byte == b'\\')
+/// Whether one of eight bytes is below 0x20, a quote or a backslash.
+#[inline]
+fn has_escaped(eight: u64) -> bool {
+    const ONES: u64 = u64::from_ne_bytes([1; 8]);
+    const HIGH: u64 = ONES << 7;
+    // the highest bit of a byte below n, if no byte before it is
+    let below = |x: u64, n: u64| x.wrapping_sub(ONES * n) & !x & HIGH;
+    let quote = eight ^ (ONES * u64::from(b'\''));
+    let backslash = eight ^ (ONES * u64::from(b'\\'));
+    below(eight, 0x20) | below(quote, 1) | below(backslash, 1) != 0
 }
 
+#[inline]
 fn escaped(byte: u8, out: &mut Output) {
     match byte {
-        0x08 => out.bytes(b"\\b"),
-        b'\t' => out.bytes(b"\\t"),
-        b'\n' => out.bytes(b"\\n"),
-        0x0c => out.bytes(b"\\f"),
-        b'\r' => out.bytes(b"\\r"),
-        b'\'' => out.bytes(b"\\'"),
-        b'\\' => out.bytes(b"\\\\"),
-        0..=0x1f => {
-            out.bytes(b"\\x");
+        b'\'' => out.signs(b"\\'"),
+        b'\\' => out.signs(b"\\\\"),
+        0..=0x1f => control(byte, out),
+        _ => out.byte(byte),
+    }
+}
+
+#[cold]
+fn control(byte: u8, out: &mut Output) {
+    match byte {
+        0x08 => out.signs(b"\\b"),
+        b'\t' => out.signs(b"\\t"),
+        b'\n' => out.signs(b"\\n"),
+        0x0c => out.signs(b"\\f"),
+        b'\r' => out.signs(b"\\r"),
+        _ => {
+            out.signs(b"\\x");
             out.hex(&[byte]);
         }
-        _ => out.byte(byte),
     }
 }
 
 /// As C's `%-20g`: six digits, padded to 20 signs.
 fn float(n: f32, out: &mut Output) {
     const WIDTH: usize = 20;
-    let length = general(widened(n), 6, out);
-    out.bytes(&[b' '; WIDTH][length.min(WIDTH)..]);
+    let length = float::general(widened(n), 6, out);
+    out.some(&[b' '; WIDTH], WIDTH - length.min(WIDTH));
 }
 
 /// The same number as a double. The sign of a NaN is kept, as the machine does.
@@ -196,108 +245,4 @@ fn widened(n: f32) -> f64 {
         true => f64::NAN.copysign(if n.is_sign_negative() { -1.0 } else { 1.0 }),
         false => n.into(),
     }
-}
-
-/// The signs of a number in C's scientific form, up to 20 digits.
-struct Scientific {
-    signs: [u8; 32],
-    length: usize,
-}
-
-impl Write for Scientific {
-    fn write_str(&mut self, text: &str) -> fmt::Result {
-        let end = self.length + text.len();
-        let room = self.signs.get_mut(self.length..end).ok_or(fmt::Error)?;
-        room.copy_from_slice(text.as_bytes());
-        self.length = end;
-        Ok(())
-    }
-}
-
-/// As C's `%.*g`, with so many digits; how many signs were written.
-fn general(n: f64, digits: usize, out: &mut Output) -> usize {
-    if n.is_sign_negative() {
-        out.byte(b'-');
-    }
-    usize::from(n.is_sign_negative()) + unsigned_general(n.abs(), digits, out)
-}
-
-fn unsigned_general(n: f64, digits: usize, out: &mut Output) -> usize {
-    let word: &[u8] = match n {
-        _ if n.is_nan() => b"nan",
-        _ if n.is_infinite() => b"inf",
-        _ if n == 0.0 => b"0",
-        _ => return finite(n, digits, out),
-    };
-    out.bytes(word);
-    word.len()
-}
-
-/// A number above 0.
-fn finite(n: f64, digits: usize, out: &mut Output) -> usize {
-    let mut form = Scientific { signs: [0; 32], length: 0 };
-    // "d.ddde-ddd"; 32 signs have room for it
-    let _ = write!(form, "{n:.*e}", digits - 1);
-    let text = form.signs.get(..form.length).unwrap_or_default();
-    let mut halves = text.split(|sign| *sign == b'e');
-    let (digits_text, exponent) = (halves.next().unwrap_or_default(), halves.next());
-    let exponent: i32 = exponent
-        .and_then(|text| std::str::from_utf8(text).ok()?.parse().ok())
-        .unwrap_or_default();
-    let mut mantissa = [b'0'; 24];
-    let mut length = 0;
-    for (to, from) in mantissa.iter_mut().zip(digits_text.iter().filter(|sign| **sign != b'.')) {
-        *to = *from;
-        length += 1;
-    }
-    while length > 1 && mantissa[length - 1] == b'0' {
-        length -= 1;
-    }
-    let mantissa = &mantissa[..length];
-    if exponent < -4 || exponent >= digits as i32 {
-        scientific(mantissa, exponent, out)
-    } else {
-        positional(mantissa, exponent, out)
-    }
-}
-
-/// d.ddde+dd
-fn scientific(mantissa: &[u8], exponent: i32, out: &mut Output) -> usize {
-    let (first, rest) = mantissa.split_at(1.min(mantissa.len()));
-    out.bytes(first);
-    if !rest.is_empty() {
-        out.byte(b'.');
-        out.bytes(rest);
-    }
-    out.bytes(if exponent < 0 { b"e-" } else { b"e+" });
-    let size = u64::from(exponent.unsigned_abs());
-    match size {
-        0..=99 => out.two(size),
-        _ => out.unsigned(size),
-    }
-    mantissa.len() + usize::from(!rest.is_empty()) + if size < 100 { 4 } else { 5 }
-}
-
-/// 0.00ddd, dd.ddd or ddd000
-fn positional(mantissa: &[u8], exponent: i32, out: &mut Output) -> usize {
-    let zeros = exponent.unsigned_abs() as usize;
-    if exponent < 0 {
-        out.bytes(b"0.");
-        out.bytes(&b"0000"[..(zeros - 1).min(4)]);
-        out.bytes(mantissa);
-        return 1 + zeros + mantissa.len();
-    }
-    let whole = zeros + 1;
-    if mantissa.len() > whole {
-        let (front, back) = mantissa.split_at(whole);
-        out.bytes(front);
-        out.byte(b'.');
-        out.bytes(back);
-        return mantissa.len() + 1;
-    }
-    out.bytes(mantissa);
-    for _ in mantissa.len()..whole {
-        out.byte(b'0');
-    }
-    whole
 }
