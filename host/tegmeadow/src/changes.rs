@@ -6,11 +6,14 @@
 
 use crate::cell::{part, Cell};
 use crate::ffi::{self, CellNumbers, Table};
-use crate::log::{Counts, Entry, Listing};
+use crate::log::{Counts, Entry};
+use std::borrow::Cow;
 use std::rc::Rc;
 
 /// Cells of a block. A change has at most two images of 512 columns.
 const BLOCK: usize = 1024;
+/// As many cells are read at a time, or one change: what is read stays near.
+const AT_A_TIME: usize = 256;
 
 /// What a change does to its row.
 #[derive(Clone, Copy, Debug, PartialEq, Eq, Hash)]
@@ -20,10 +23,12 @@ pub enum Kind {
     Delete,
 }
 
-/// The changes of a log, in log order.
+/// Changes of a log, in log order.
 pub struct Changes<'a> {
     log: &'a [u8],
-    listing: Listing,
+    counts: Counts,
+    /// The listing numbers of the changes.
+    numbers: Cow<'a, [u32]>,
     /// The changes given out.
     next: usize,
     /// The tables of the changes of the block, the first that of `first`.
@@ -37,10 +42,11 @@ pub struct Changes<'a> {
 }
 
 impl<'a> Changes<'a> {
-    pub(crate) fn new(log: &'a [u8], listing: Listing) -> Changes<'a> {
+    pub(crate) fn new(log: &'a [u8], counts: Counts, numbers: Cow<'a, [u32]>) -> Changes<'a> {
         Changes {
             log,
-            listing,
+            counts,
+            numbers,
             next: 0,
             tables: Vec::new(),
             first: 0,
@@ -50,14 +56,9 @@ impl<'a> Changes<'a> {
         }
     }
 
-    /// How many events and changes the log has.
+    /// How many events and changes the whole log has.
     pub fn counts(&self) -> Counts {
-        self.listing.counts()
-    }
-
-    /// The listing that the changes are read by.
-    pub fn listing(&self) -> &Listing {
-        &self.listing
+        self.counts
     }
 
     /// Reads the cells of as many changes as fit into a block.
@@ -66,13 +67,13 @@ impl<'a> Changes<'a> {
         self.tables.clear();
         self.first = self.next;
         self.given = 0;
-        let rest = self.listing.numbers().get(self.next.saturating_mul(5)..).unwrap_or_default();
+        let rest = self.numbers.get(self.next.saturating_mul(5)..).unwrap_or_default();
         let mut cells = 0;
         for numbers in rest.chunks_exact(5) {
             let Some(entry) = numbers.first_chunk::<5>() else { break };
             let Some(table) = table(self.log, entry, &mut self.last) else { break };
             cells += images(entry).saturating_mul(table.columns);
-            if cells > BLOCK {
+            if cells > AT_A_TIME && !self.tables.is_empty() {
                 break;
             }
             self.tables.push(table);
@@ -110,7 +111,7 @@ impl<'a> Iterator for Changes<'a> {
     #[inline]
     fn next(&mut self) -> Option<Change<'a>> {
         let start = self.next.checked_mul(5)?;
-        let entry = *self.listing.numbers().get(start..)?.first_chunk::<5>()?;
+        let entry = *self.numbers.get(start..)?.first_chunk::<5>()?;
         if self.next - self.first >= self.tables.len() {
             self.fill();
         }
@@ -122,7 +123,7 @@ impl<'a> Iterator for Changes<'a> {
     }
 
     fn size_hint(&self) -> (usize, Option<usize>) {
-        let left = self.listing.counts().changes - self.next;
+        let left = (self.numbers.len() / 5).saturating_sub(self.next);
         (left, Some(left))
     }
 }
@@ -250,7 +251,7 @@ pub struct Cells<'c, 'a> {
 impl<'a> Iterator for Cells<'_, 'a> {
     type Item = Cell<'a>;
 
-    #[inline]
+    #[inline(always)]
     fn next(&mut self) -> Option<Cell<'a>> {
         self.cells.next().map(|numbers| Cell::of(self.log, numbers))
     }
@@ -260,7 +261,7 @@ impl<'a> Iterator for Cells<'_, 'a> {
         self.cells.size_hint()
     }
 
-    #[inline]
+    #[inline(always)]
     fn fold<B, F: FnMut(B, Cell<'a>) -> B>(self, first: B, mut f: F) -> B {
         let log = self.log;
         self.cells.fold(first, |so_far, numbers| f(so_far, Cell::of(log, numbers)))

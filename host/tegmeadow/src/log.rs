@@ -5,6 +5,7 @@ use crate::changes::Changes;
 use crate::ffi::{self, Answer, EntryNumbers, Walked};
 use crate::refusal::Refusal;
 use std::fmt;
+use std::ops::Range;
 
 /// Bytes that are lent to be read as a log.
 #[derive(Clone, Copy)]
@@ -75,6 +76,12 @@ impl Listing {
     /// All numbers, five for each change.
     pub fn numbers(&self) -> &[u32] {
         &self.numbers
+    }
+
+    /// The entry of change `k`, counted from 0.
+    pub fn entry(&self, k: usize) -> Option<Entry> {
+        let numbers = self.numbers.get(k.checked_mul(5)?..)?;
+        numbers.first_chunk().copied().map(Entry)
     }
 
     /// The entries, one for each change.
@@ -184,13 +191,18 @@ impl<'a> Log<'a> {
 
     /// Every change, in log order, by one walk.
     pub fn changes(&self) -> Result<Changes<'a>, Refusal> {
-        Ok(self.changes_of(self.listing()?))
+        let listing = self.listing()?;
+        Ok(Changes::new(self.bytes, listing.counts, listing.numbers.into()))
     }
 
-    /// The changes of a listing of this log. A listing of another log is read
-    /// as far as its entries can be read here.
-    pub fn changes_of(&self, listing: Listing) -> Changes<'a> {
-        Changes::new(self.bytes, listing)
+    /// Some changes of a listing of this log, by their numbers from 0; those
+    /// that it has not are left out. A listing of another log is read as far
+    /// as its entries can be read here.
+    pub fn changes_in(&self, listing: &'a Listing, some: Range<usize>) -> Changes<'a> {
+        let count = listing.numbers.len() / 5;
+        let (start, end) = (some.start.min(count), some.end.min(count));
+        let numbers = listing.numbers.get(5 * start..5 * end).unwrap_or_default();
+        Changes::new(self.bytes, listing.counts, numbers.into())
     }
 
     /// Change `k`, counted from 0.
