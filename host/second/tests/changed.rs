@@ -105,7 +105,7 @@ fn changes() {
     for log in LOGS {
         let places = places(log);
         let sums = log[places[1] - 5] == 1;
-        for _ in 0..6_000 {
+        for _ in 0..3_000 {
             let mut bad = log.to_vec();
             for _ in 0..1 + random.below(3) {
                 let event = random.below(places.len() - 1);

@@ -213,6 +213,26 @@ fn the_opening() {
 }
 
 #[test]
+fn the_longest_log() {
+    // Length is judged before the opening bytes, and those before the rest.
+    let log = vec![0; (1 << 30) + 1];
+    assert_eq!(
+        check(&log),
+        Err(Refusal {
+            number: 1,
+            place: 0
+        })
+    );
+    assert_eq!(
+        check(&log[1..]),
+        Err(Refusal {
+            number: 2,
+            place: 0
+        })
+    );
+}
+
+#[test]
 fn description_lengths() {
     for (entries, number) in [(31, 6), (32, 0), (255, 0), (256, 6)] {
         let mut description = Description::sound();

@@ -1,4 +1,5 @@
 //! Logs made for the tests.
+#![allow(dead_code)]
 
 use second::crc32;
 
@@ -48,13 +49,7 @@ impl Description {
         body.push(self.header);
         body.extend(&self.entries);
         body.push(self.kind);
-        let bytes = vec![0xfe, 0x62, 0x69, 0x6e];
-        let mut log = Log {
-            bytes,
-            header: 19,
-            sums: true,
-            server: 1,
-        };
+        let mut log = Log::opened();
         log.event(15, 0, &body);
         log.header = self.header.into();
         log.sums = self.kind == 1;
@@ -63,6 +58,16 @@ impl Description {
 }
 
 impl Log {
+    /// The four opening bytes.
+    pub fn opened() -> Self {
+        Log {
+            bytes: vec![0xfe, 0x62, 0x69, 0x6e],
+            header: 19,
+            sums: true,
+            server: 1,
+        }
+    }
+
     pub fn sound() -> Self {
         Description::sound().log()
     }
