@@ -3,3 +3,4 @@ pub mod Bits
 pub mod PackedAt
 pub mod PackedIs
 pub mod Differences
+pub mod Below

@@ -2,7 +2,7 @@
 use borrow.Author.Needs.{needs}
 use native.Mathlib.Omega.{arith}
 use lib.Signed.{mag}
-use Rattle.report.proofs.Below.{less-fits, less-is, casts}
+use Rattle.wire.proofs.Below.{less-fits, less-is, casts}
 use Rattle.report.proofs.print_signed.Statement.{statement}
 use Rattle.report.proofs.print_signed.Tie as tie
 

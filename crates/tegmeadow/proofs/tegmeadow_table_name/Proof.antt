@@ -1,0 +1,21 @@
+use Rattle.format.specs.declared.Part.{Part}
+use mathlib.Core.Path.{_∙_, ap}
+use borrow.Author.Needs.{needs}
+use Rattle.tegmeadow.proofs.tegmeadow_table_name.Statement.{statement}
+use Rattle.tegmeadow.proofs.tegmeadow_table_name.Tie as tie
+use Rattle.tegmeadow.proofs.tegmeadow_table_name.Reads as reads
+use Rattle.tegmeadow.proofs.tegmeadow_table_name.Lts as lts
+use Rattle.binlog.proofs.table_part.Reads as table-part-reads
+use Rattle.tegmeadow.proofs.put_part.Reads as put-part-reads
+
+table-part-requires : tie.Need-table-part-requires
+table-part-requires c κs = search needs
+
+put-part-requires : tie.Need-put-part-requires
+put-part-requires c κs = search needs
+
+returns : tie.Need-returns
+returns c = let p = c .before .before .before .table-part .ensures in (c .put-part .ensures .0 ∙ ap (λ (x : Part). x .place) p, c .put-part .ensures .1 ∙ ap (λ (x : Part). x .size) p)
+
+pub tegmeadow-table-name-spec : {M : Type 1} → statement M
+tegmeadow-table-name-spec = tie.close (tie.spec table-part-requires put-part-requires returns)

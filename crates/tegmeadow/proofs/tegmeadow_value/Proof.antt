@@ -1,0 +1,24 @@
+use borrow.Author.Needs.{needs}
+use Rattle.tegmeadow.proofs.tegmeadow_value.Statement.{statement}
+use Rattle.tegmeadow.proofs.tegmeadow_value.Tie as tie
+use Rattle.tegmeadow.proofs.tegmeadow_value.Reads as reads
+use Rattle.tegmeadow.proofs.tegmeadow_value.Lts as lts
+use Rattle.binlog.proofs.value.Reads as value-reads
+use Rattle.tegmeadow.proofs.place_of.Reads as place-of-reads
+use Rattle.tegmeadow.proofs.put_cell.Reads as put-cell-reads
+
+value-requires : tie.Need-value-requires
+value-requires c κs = search needs
+
+place-of-requires : tie.Need-place-of-requires
+place-of-requires c κs = search needs
+
+put-cell-requires : tie.Need-put-cell-requires
+put-cell-requires c κs = search needs
+
+returns : tie.Need-returns
+returns c = let t = c .put-cell .ensures _ _ (c .before .before .before .value .ensures) in (t .0, (c .before .before .place-of .ensures _ _ (c .before .before .before .value .ensures), t .1))
+
+pub tegmeadow-value-spec : {M : Type 1} → statement M
+tegmeadow-value-spec =
+    tie.close (tie.spec value-requires place-of-requires put-cell-requires returns)
