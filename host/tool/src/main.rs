@@ -11,6 +11,7 @@ mod list;
 mod output;
 mod parallel;
 mod progress;
+mod quoted;
 mod show;
 mod sql;
 

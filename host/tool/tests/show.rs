@@ -8,7 +8,7 @@
 
 mod common;
 
-use common::{file, run, run_on, text};
+use common::{append, extremes, file, length_at, repeated, run, run_on, text};
 use std::path::{Path, PathBuf};
 use std::process::Command;
 
@@ -175,6 +175,40 @@ fn show_agrees_on_extreme_values() {
         lines(&shown.stdout).into_iter().map(with_one_sign_for_two_digits).collect();
     hold("extremes", &shown, &expected);
     assert_eq!(shown.len(), expected.len());
+}
+
+/// A long log is shown by several threads, in order.
+#[test]
+fn a_long_log_is_shown_in_order() {
+    let once = run_on(["show"], &extremes()).stdout;
+    let often = run_on(["show"], &repeated(&extremes(), 40)).stdout;
+    assert!(often == once.repeat(40));
+    let once = run_on(["show", "--json"], &repeated(&extremes(), 40)).stdout;
+    let number = |line: &[u8]| {
+        let line = text(line);
+        line.trim_start_matches("{\"change\":").split(',').next().map(str::to_string)
+    };
+    for (k, line) in lines(&once).iter().enumerate() {
+        assert_eq!(number(line), Some(k.to_string()));
+    }
+}
+
+/// The line about a partition comes once before the changes of an event, also
+/// where they are so many that several threads show them.
+#[test]
+fn a_partition_is_said_once_an_event() {
+    let log = std::fs::read(data("real").join("mysql-part-crc32.binlog")).expect("the log");
+    let listed = text(&run_on(["list"], &log).stdout);
+    let numbers = listed.split_whitespace().map(|it| it.parse().expect("a number"));
+    let numbers: Vec<usize> = numbers.take(5).collect();
+    let [30, event, _, 0, image] = numbers[..] else { panic!("{listed}") };
+    let rows = &log[image..event + length_at(&log, event) - 4];
+    let mut long = log[..event].to_vec();
+    append(&mut long, [&log[event..image], &rows.repeat(50_000)].concat());
+    let shown = lines(&run_on(["show"], &long).stdout);
+    let said = shown.iter().filter(|line| line.starts_with(b"### Extra row info"));
+    let changes = shown.iter().filter(|line| line.starts_with(b"### INSERT INTO"));
+    assert_eq!((said.count(), changes.count()), (1, 100_000));
 }
 
 #[test]
