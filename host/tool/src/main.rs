@@ -71,7 +71,7 @@ fn one(job: &Job, source: &Source, out: &mut Output) -> io::Result<Status> {
     };
     progress.has_read(bytes.len());
     match job.command {
-        Command::Check => check::run(source, &bytes, job.json, out),
+        Command::Check => check::run(source, &bytes, job.json, out, progress),
         Command::List => list::run(source, &bytes, job.json, out, progress),
         Command::Show => show::run(source, &bytes, job.json, out, progress),
     }
