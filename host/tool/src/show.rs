@@ -22,6 +22,7 @@ pub struct Table<'a> {
     map: usize,
     pub database: &'a [u8],
     pub name: &'a [u8],
+    /// Its columns, and perhaps more of a wider table before it.
     columns: Vec<Column>,
     /// Kept for its memory.
     digits: Vec<u8>,
@@ -56,7 +57,6 @@ impl<'a> Table<'a> {
             self.digits.clear();
         }
         self.digits.resize(change.columns(), 6);
-        self.columns.truncate(change.columns());
         while self.columns.len() < change.columns() {
             let start = Start::of(self.columns.len());
             self.columns.push(Column { start, digits: 0 });
