@@ -195,3 +195,21 @@ fn a_part_of_a_listing_gives_its_changes() {
     assert_eq!(entries(all.len() - 1..usize::MAX), all[all.len() - 1..]);
     assert_eq!(entries(usize::MAX..usize::MAX), []);
 }
+
+/// A listing of another log gives what can be read, and nothing that was not written for it.
+#[test]
+fn a_listing_of_another_log_is_read_as_far_as_it_can_be() {
+    let bytes = evidence::read("real/mysql-part-crc32.binlog");
+    let listing = Log::new(&bytes).listing().expect("a listing");
+    for length in (0..bytes.len()).step_by(7) {
+        let cut = Log::new(&bytes[..length]);
+        for change in cut.changes_in(&listing, 0..usize::MAX) {
+            let entry = change.entry();
+            for (side, image) in [(Side::Before, change.before()), (Side::After, change.after())] {
+                for (column, cell) in image.iter().flat_map(|it| it.cells()).enumerate() {
+                    assert_eq!(Some(cell), cut.value_at(&entry, side, column));
+                }
+            }
+        }
+    }
+}

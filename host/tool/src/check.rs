@@ -4,13 +4,22 @@ use crate::event::{name, Event};
 use crate::input::Source;
 use crate::json;
 use crate::output::Output;
+use crate::progress::Progress;
 use crate::Status;
 use std::fmt::Write;
 use std::io;
 use tegmeadow::{Counts, Log, Refusal};
 
-pub fn run(source: &Source, bytes: &[u8], json: bool, out: &mut Output) -> io::Result<Status> {
+pub fn run(
+    source: &Source,
+    bytes: &[u8],
+    json: bool,
+    out: &mut Output,
+    progress: Progress,
+) -> io::Result<Status> {
     let answer = Log::new(bytes).check();
+    // its line must be gone before another is printed
+    drop(progress);
     match (&answer, json) {
         (Ok(counts), false) => accepted(source, counts, out),
         (Err(refusal), false) => {

@@ -5,9 +5,10 @@ use std::sync::mpsc::{Receiver, SyncSender};
 
 /// The buffer's size. It is written out when it is full.
 const SIZE: usize = 1 << 16;
+pub type Buffer = Box<[u8; SIZE]>;
 
 pub struct Output {
-    buffer: Box<[u8]>,
+    buffer: Buffer,
     /// How much of the buffer is filled.
     at: usize,
     sink: Sink,
@@ -18,12 +19,12 @@ pub struct Output {
 enum Sink {
     Standard(Stdout),
     /// Buffers go to another thread, and come back empty.
-    Thread(SyncSender<Piece>, Receiver<Box<[u8]>>),
+    Thread(SyncSender<Piece>, Receiver<Buffer>),
 }
 
 /// A buffer on its way to the thread that prints.
 pub struct Piece {
-    pub buffer: Box<[u8]>,
+    pub buffer: Buffer,
     filled: usize,
     /// Whether it ends what belongs together.
     pub is_last: bool,
@@ -35,8 +36,8 @@ impl Piece {
     }
 }
 
-fn fresh() -> Box<[u8]> {
-    vec![0; SIZE].into_boxed_slice()
+fn fresh() -> Buffer {
+    Box::new([0; SIZE])
 }
 
 /// The numbers 00 to 99, two digits each.
@@ -76,15 +77,17 @@ impl Output {
     }
 
     /// Output for another thread to print.
-    pub fn to(pieces: SyncSender<Piece>, buffers: Receiver<Box<[u8]>>) -> Output {
+    pub fn to(pieces: SyncSender<Piece>, buffers: Receiver<Buffer>) -> Output {
         Output { buffer: fresh(), at: 0, sink: Sink::Thread(pieces, buffers), lost: None }
     }
 
-    /// Signs of a number that is fixed, of which the first `used` count.
+    /// Signs of which the first `used` count. Copying all of them is quicker.
     #[inline]
     pub fn some<const N: usize>(&mut self, signs: &[u8; N], used: usize) {
-        if self.buffer.len() - self.at < N {
+        if self.at > SIZE - N {
             self.drain();
+            // said again for the compiler, which then needs no other test
+            self.at = 0;
         }
         if let Some(room) = self.buffer.get_mut(self.at..self.at + N) {
             room.copy_from_slice(signs);
@@ -105,7 +108,7 @@ impl Output {
 
     pub fn bytes(&mut self, bytes: &[u8]) {
         for run in bytes.chunks(SIZE) {
-            if self.buffer.len() - self.at < run.len() {
+            if run.len() > SIZE - self.at {
                 self.drain();
             }
             if let Some(room) = self.buffer.get_mut(self.at..self.at + run.len()) {
@@ -122,48 +125,39 @@ impl Output {
             return self.leading(n);
         }
         let high = n / E8;
+        let low = eight(n - high * E8) | ASCII_ZEROS;
+        let [tens, ones] = pair(high as u32);
         match high {
-            0..=99 => self.leading_pair(high),
-            _ => self.leading_long(high),
+            0..=9 => self.some(&(u128::from(low) << 8 | u128::from(ones)).to_le_bytes(), 9),
+            10..=99 => {
+                let front = u128::from(u16::from_le_bytes([tens, ones]));
+                self.some(&(u128::from(low) << 16 | front).to_le_bytes(), 10);
+            }
+            _ => {
+                self.above(high);
+                self.signs(&low.to_le_bytes());
+            }
         }
-        self.padded(n - high * E8);
     }
 
-    /// A number below 184,467,440,738 without zeros before it.
-    fn leading_long(&mut self, n: u64) {
-        if n < E8 {
+    /// The digits of a number that has eight more after them.
+    fn above(&mut self, n: u64) {
+        let high = n / E8;
+        if high == 0 {
             return self.leading(n);
         }
-        self.leading(n / E8);
-        self.padded(n % E8);
+        self.leading(high);
+        self.signs(&(eight(n - high * E8) | ASCII_ZEROS).to_le_bytes());
     }
 
-    /// A number below 100 without zeros before it.
-    #[inline]
-    fn leading_pair(&mut self, n: u64) {
-        let [tens, ones] = pair(n as u32);
-        match n {
-            0..=9 => self.byte(ones),
-            _ => self.signs(&[tens, ones]),
-        }
-    }
-
-    /// A number below 100,000,000 without zeros before it.
+    /// A number below 100,000,000.
     #[inline]
     fn leading(&mut self, n: u64) {
-        if n < 100 {
-            return self.leading_pair(n);
-        }
         let digits = eight(n);
-        let zeros = digits.trailing_zeros() / 8;
+        // the last digit stays, of 0 too
+        let zeros = (digits.trailing_zeros() / 8).min(7);
         let signs = ((digits | ASCII_ZEROS) >> (8 * zeros)).to_le_bytes();
         self.some(&signs, 8 - zeros as usize);
-    }
-
-    /// A number below 100,000,000 in eight digits.
-    #[inline]
-    fn padded(&mut self, n: u64) {
-        self.signs(&(eight(n) | ASCII_ZEROS).to_le_bytes());
     }
 
     #[inline]

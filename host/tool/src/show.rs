@@ -1,6 +1,5 @@
 //! `show`: every change with its values.
 
-use crate::complain;
 use crate::input::Source;
 use crate::json;
 use crate::layout::{self, Partition};
@@ -23,6 +22,7 @@ pub struct Table<'a> {
     map: usize,
     pub database: &'a [u8],
     pub name: &'a [u8],
+    /// Its columns, and perhaps more of a wider table before it.
     columns: Vec<Column>,
     /// Kept for its memory.
     digits: Vec<u8>,
@@ -57,7 +57,6 @@ impl<'a> Table<'a> {
             self.digits.clear();
         }
         self.digits.resize(change.columns(), 6);
-        self.columns.truncate(change.columns());
         while self.columns.len() < change.columns() {
             let start = Start::of(self.columns.len());
             self.columns.push(Column { start, digits: 0 });
@@ -80,15 +79,10 @@ pub fn run(
     out: &mut Output,
     progress: Progress,
 ) -> io::Result<Status> {
-    let listing = match list::listing(source, bytes) {
-        Ok(listing) => listing,
-        Err((status, why)) => {
-            drop(progress);
-            complain(&why);
-            return Ok(status);
-        }
+    let (listing, progress) = match list::listed(source, bytes, progress) {
+        Ok(both) => both,
+        Err(status) => return Ok(status),
     };
-    progress.has_listed(listing.counts().changes);
     let work = |span: Range<usize>, out: &mut Output| some(bytes, &listing, span, as_json, out);
     parallel::in_order(&spans(&listing), out, &work, |done| progress.has_done(done))?;
     Ok(Status::Accepted)

@@ -4,7 +4,7 @@ mod common;
 #[path = "../../tegmeadow/tests/evidence/mod.rs"]
 mod evidence;
 
-use common::{file, log_004, program, run, run_on, text};
+use common::{extremes, length_at, log_004, program, repeated, run, run_on, text};
 use std::ffi::OsString;
 use std::fs::File;
 use std::io::Read;
@@ -126,8 +126,8 @@ fn a_refused_value_names_the_event_around_it() {
         let said = verdict(&bytes);
         let (_, event) = said.rsplit_once(" event at ").unwrap_or_else(|| panic!("{name}: {said}"));
         let event: usize = event.parse().expect("a place");
-        let length = u32::from_le_bytes(bytes[event + 9..event + 13].try_into().expect("four"));
-        assert!((event..event + length as usize).contains(&place), "{name}: {said}");
+        let end = event + length_at(&bytes, event);
+        assert!((event..end).contains(&place), "{name}: {said}");
         assert!(matches!(bytes[event + 4], 30..=32), "{name}: {said}");
         seen += 1;
     }
@@ -204,16 +204,9 @@ fn a_file_named_like_an_option() {
 /// A reader that goes away ends the program quietly.
 #[test]
 fn a_broken_pipe_ends_quietly() {
-    let log = file("host/tool/tests/data/extremes.binlog");
-    let mut bytes = std::fs::read(log).expect("the log");
-    // long enough to fill any pipe: the rows of the texts again and again
-    let first = 4 + 19 + 2 + 50 + 4 + 1 + 42 + 5;
-    let body = bytes[first..].to_vec();
-    while bytes.len() < 1 << 21 {
-        append(&mut bytes, &body);
-    }
+    // long enough to fill any pipe
     let path = Path::new(env!("CARGO_TARGET_TMPDIR")).join("long.binlog");
-    std::fs::write(&path, &bytes).expect("a long log");
+    std::fs::write(&path, repeated(&extremes(), 100)).expect("a long log");
     for words in [["show", "--"], ["show", "--json"], ["list", "--"]] {
         let mut child = program()
             .args(words)
@@ -228,26 +221,6 @@ fn a_broken_pipe_ends_quietly() {
         let ended = child.wait_with_output().expect("it ends");
         assert_eq!((ended.status.code(), text(&ended.stderr)), (Some(0), String::new()));
     }
-}
-
-/// Appends events with their next positions and checksums made right.
-fn append(log: &mut Vec<u8>, events: &[u8]) {
-    let mut rest = events;
-    while let [_, _, _, _, _, _, _, _, _, a, b, c, d, ..] = *rest {
-        let length = u32::from_le_bytes([a, b, c, d]) as usize;
-        let mut event = rest[..length].to_vec();
-        let next = (log.len() + length) as u32;
-        event[13..17].copy_from_slice(&next.to_le_bytes());
-        let sum = crc32(&event[..length - 4]);
-        event[length - 4..].copy_from_slice(&sum.to_le_bytes());
-        log.extend_from_slice(&event);
-        rest = &rest[length..];
-    }
-}
-
-fn crc32(bytes: &[u8]) -> u32 {
-    let step = |crc: u32, _| if crc & 1 == 1 { crc >> 1 ^ 0xEDB8_8320 } else { crc >> 1 };
-    !bytes.iter().fold(!0, |crc, byte| (0..8).fold(crc ^ u32::from(*byte), step))
 }
 
 #[test]
