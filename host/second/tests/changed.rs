@@ -5,9 +5,9 @@ use second::*;
 
 /// What a real MySQL server wrote, with and without checksums.
 const LOGS: [&[u8]; 3] = [
-    include_bytes!("logs/mysql-base-crc32-minimal.binlog"),
-    include_bytes!("logs/mysql-base-none-full.binlog"),
-    include_bytes!("logs/mysql-part-crc32.binlog"),
+    include_bytes!("../../../crates/evidence/data/real/mysql-base-crc32-minimal.binlog"),
+    include_bytes!("../../compare/data/real/mysql-base-none-full.binlog"),
+    include_bytes!("../../../crates/evidence/data/real/mysql-part-crc32.binlog"),
 ];
 
 struct Random(u64);

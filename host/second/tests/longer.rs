@@ -7,8 +7,8 @@ use making::*;
 use second::*;
 
 const LOGS: [&[u8]; 2] = [
-    include_bytes!("logs/mysql-base-crc32-minimal.binlog"),
-    include_bytes!("logs/mysql-part-crc32.binlog"),
+    include_bytes!("../../../crates/evidence/data/real/mysql-base-crc32-minimal.binlog"),
+    include_bytes!("../../../crates/evidence/data/real/mysql-part-crc32.binlog"),
 ];
 
 /// By how much a log grows.
