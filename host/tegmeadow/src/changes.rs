@@ -10,10 +10,9 @@ use crate::log::{Counts, Entry};
 use std::borrow::Cow;
 use std::rc::Rc;
 
-/// Cells of a block. A change has at most two images of 512 columns.
-const BLOCK: usize = 1024;
-/// As many cells are read at a time, or one change: what is read stays near.
-const AT_A_TIME: usize = 256;
+/// Cells of a block, and read at a time: a few, so that they stay near. A
+/// change that has more is read alone; its block is as long as it needs.
+const BLOCK: usize = 256;
 
 /// What a change does to its row.
 #[derive(Clone, Copy, Debug, PartialEq, Eq, Hash)]
@@ -67,28 +66,59 @@ impl<'a> Changes<'a> {
         self.tables.clear();
         self.first = self.next;
         self.given = 0;
-        let rest = self.numbers.get(self.next.saturating_mul(5)..).unwrap_or_default();
+        let rest = self
+            .numbers
+            .get(self.next.saturating_mul(5)..)
+            .unwrap_or_default();
         let mut cells = 0;
         for numbers in rest.chunks_exact(5) {
-            let Some(entry) = numbers.first_chunk::<5>() else { break };
-            let Some(table) = table(self.log, entry, &mut self.last) else { break };
-            cells += images(entry).saturating_mul(table.columns);
-            if cells > AT_A_TIME && !self.tables.is_empty() {
+            let Some(entry) = numbers.first_chunk::<5>() else {
+                break;
+            };
+            let Some(table) = table(self.log, entry, &mut self.last) else {
+                break;
+            };
+            let more = images(entry) * table.columns;
+            if cells > 0 && cells + more > BLOCK {
                 break;
             }
+            cells += more;
             self.tables.push(table);
         }
-        let planned = rest.get(..self.tables.len().saturating_mul(5)).unwrap_or_default();
-        ffi::values(self.log, planned, free_block(&mut self.block));
+        let planned = rest.get(..self.tables.len() * 5).unwrap_or_default();
+        let written = ffi::values(self.log, planned, free_block(&mut self.block, cells));
+        if written < cells {
+            // of a listing of another log: changes that can't be read whole are not given
+            let whole = whole_changes(planned, &self.tables, written);
+            self.tables.truncate(whole);
+        }
     }
 }
 
-/// The block to write into: this one, or a new one where a change holds it.
-fn free_block(block: &mut Rc<Vec<CellNumbers>>) -> &mut [CellNumbers] {
-    if block.is_empty() || Rc::get_mut(block).is_none() {
-        *block = Rc::new(vec![CellNumbers::default(); BLOCK]);
+/// How many changes the first so many cells are of.
+fn whole_changes(listing: &[u32], tables: &[Table], mut cells: usize) -> usize {
+    let is_whole = |(numbers, table): &(&[u32], &Table)| {
+        let size = numbers.first_chunk::<5>().map_or(0, images) * table.columns;
+        let left = cells.checked_sub(size);
+        cells = left.unwrap_or(0);
+        left.is_some()
+    };
+    listing
+        .chunks_exact(5)
+        .zip(tables)
+        .take_while(is_whole)
+        .count()
+}
+
+/// A block of at least so many cells to write into: this one, or a new one
+/// where it is too short or a change holds it.
+fn free_block(block: &mut Rc<Vec<CellNumbers>>, cells: usize) -> &mut [CellNumbers] {
+    if block.len() < cells || Rc::get_mut(block).is_none() {
+        *block = Rc::new(vec![CellNumbers::default(); cells.max(BLOCK)]);
     }
-    Rc::get_mut(block).map(Vec::as_mut_slice).unwrap_or_default()
+    Rc::get_mut(block)
+        .map(Vec::as_mut_slice)
+        .unwrap_or_default()
 }
 
 /// The table at an entry. Entries with one map have one table.
@@ -119,7 +149,13 @@ impl<'a> Iterator for Changes<'a> {
         let start = self.given;
         self.given += images(&entry) * table.columns;
         self.next += 1;
-        Some(Change { log: self.log, entry: Entry(entry), table, block: self.block.clone(), start })
+        Some(Change {
+            log: self.log,
+            entry: Entry(entry),
+            table,
+            block: self.block.clone(),
+            start,
+        })
     }
 
     fn size_hint(&self) -> (usize, Option<usize>) {
@@ -189,14 +225,21 @@ impl<'a> Change<'a> {
     #[inline]
     pub fn after(&self) -> Option<Image<'_, 'a>> {
         self.entry.after()?;
-        let skipped = if self.entry.before().is_some() { self.table.columns } else { 0 };
+        let skipped = if self.entry.before().is_some() {
+            self.table.columns
+        } else {
+            0
+        };
         self.image(self.start + skipped)
     }
 
     #[inline]
     fn image(&self, start: usize) -> Option<Image<'_, 'a>> {
         let cells = self.block.get(start..start + self.table.columns)?;
-        Some(Image { log: self.log, cells })
+        Some(Image {
+            log: self.log,
+            cells,
+        })
     }
 }
 
@@ -221,13 +264,18 @@ impl<'c, 'a> Image<'c, 'a> {
     /// The cell of a column, counted from 0.
     #[inline]
     pub fn cell(&self, column: usize) -> Option<Cell<'a>> {
-        self.cells.get(column).map(|numbers| Cell::of(self.log, numbers))
+        self.cells
+            .get(column)
+            .map(|numbers| Cell::of(self.log, numbers))
     }
 
     /// The cells, from column 0.
     #[inline]
     pub fn cells(&self) -> Cells<'c, 'a> {
-        Cells { log: self.log, cells: self.cells.iter() }
+        Cells {
+            log: self.log,
+            cells: self.cells.iter(),
+        }
     }
 }
 
@@ -264,7 +312,8 @@ impl<'a> Iterator for Cells<'_, 'a> {
     #[inline(always)]
     fn fold<B, F: FnMut(B, Cell<'a>) -> B>(self, first: B, mut f: F) -> B {
         let log = self.log;
-        self.cells.fold(first, |so_far, numbers| f(so_far, Cell::of(log, numbers)))
+        self.cells
+            .fold(first, |so_far, numbers| f(so_far, Cell::of(log, numbers)))
     }
 }
 

@@ -1,6 +1,7 @@
 //! Changes as JSON objects, one a line.
 
 use crate::output::Output;
+use crate::quoted::quoted;
 use crate::show::Table;
 use crate::sql;
 use std::fmt::Write;
@@ -24,7 +25,12 @@ pub fn change(k: usize, change: &Change<'_>, table: &Table<'_>, out: &mut Output
     out.unsigned(entry.map() as u64);
     out.signs(b",\"table_id\":");
     out.unsigned(change.table_id());
-    bytes(table.database, b",\"database\":", b",\"database_hex\":\"", out);
+    bytes(
+        table.database,
+        b",\"database\":",
+        b",\"database_hex\":\"",
+        out,
+    );
     bytes(table.name, b",\"table\":", b",\"table_hex\":\"", out);
     out.signs(b",\"columns\":");
     out.unsigned(change.columns() as u64);
@@ -45,7 +51,11 @@ fn image(key: &[u8], image: Image<'_, '_>, out: &mut Output) {
         if cell == Cell::Absent {
             continue;
         }
-        out.bytes(if first { b"{\"column\":" } else { b",{\"column\":" });
+        out.bytes(if first {
+            b"{\"column\":"
+        } else {
+            b",{\"column\":"
+        });
         first = false;
         out.unsigned(column as u64 + 1);
         if let Cell::Stored(kind, value) = cell {
@@ -88,7 +98,7 @@ fn stored(value: Value<'_>, out: &mut Output) {
         }
         Value::Float(n) => float(n.is_finite(), n, n.to_bits().into(), out),
         Value::Double(n) => float(n.is_finite(), n, n.to_bits(), out),
-        Value::Date(date) => quoted(out, |out| sql::date(date, b'-', out)),
+        Value::Date(date) => in_quotes(out, |out| sql::date(date, b'-', out)),
         Value::Year(year) => {
             out.signs(b",\"value\":");
             out.unsigned(year.into());
@@ -98,8 +108,8 @@ fn stored(value: Value<'_>, out: &mut Output) {
             out.unsigned(t.seconds.into());
             out.fraction(t.microseconds, DIGITS);
         }
-        Value::Datetime(t) => quoted(out, |out| sql::datetime(t, DIGITS, out)),
-        Value::Time(t) => quoted(out, |out| sql::time(t, DIGITS, out)),
+        Value::Datetime(t) => in_quotes(out, |out| sql::datetime(t, DIGITS, out)),
+        Value::Time(t) => in_quotes(out, |out| sql::time(t, DIGITS, out)),
         Value::Text(text) => bytes(text, b",\"value\":", b",\"hex\":\"", out),
     }
 }
@@ -112,7 +122,7 @@ fn float(finite: bool, n: impl std::fmt::Debug, bits: u64, out: &mut Output) {
     };
 }
 
-fn quoted(out: &mut Output, write: impl FnOnce(&mut Output)) {
+fn in_quotes(out: &mut Output, write: impl FnOnce(&mut Output)) {
     out.signs(b",\"value\":\"");
     write(out);
     out.byte(b'"');
@@ -135,30 +145,10 @@ fn bytes(bytes: &[u8], key: &[u8], hex_key: &[u8], out: &mut Output) {
 
 /// A JSON string.
 pub fn string(out: &mut Output, text: &str) {
-    out.byte(b'"');
-    for run in text.as_bytes().chunks(32) {
-        // no early end, so that it is done many bytes at a time
-        if run.iter().fold(false, |found, &byte| found | is_escaped(byte)) {
-            run.iter().for_each(|&byte| escaped(byte, out));
-        } else {
-            out.bytes(run);
-        }
-    }
-    out.byte(b'"');
+    quoted(text.as_bytes(), b'"', control, out);
 }
 
-fn is_escaped(byte: u8) -> bool {
-    (byte < 0x20) | (byte == b'"') | (byte == b'\\')
-}
-
-fn escaped(byte: u8, out: &mut Output) {
-    match byte {
-        b'"' => out.signs(b"\\\""),
-        b'\\' => out.signs(b"\\\\"),
-        0..=0x1f => {
-            out.signs(b"\\u00");
-            out.hex(&[byte]);
-        }
-        _ => out.byte(byte),
-    }
+fn control(byte: u8, out: &mut Output) {
+    out.signs(b"\\u00");
+    out.hex(&[byte]);
 }

@@ -16,15 +16,10 @@ pub fn run(
     out: &mut Output,
     progress: Progress,
 ) -> io::Result<Status> {
-    let listing = match listing(source, bytes) {
-        Ok(listing) => listing,
-        Err((status, why)) => {
-            drop(progress);
-            complain(&why);
-            return Ok(status);
-        }
+    let (listing, progress) = match listed(source, bytes, progress) {
+        Ok(both) => both,
+        Err(status) => return Ok(status),
     };
-    progress.has_listed(listing.counts().changes);
     for (k, entry) in listing.entries().enumerate() {
         match json {
             false => plain(&entry, out),
@@ -36,14 +31,26 @@ pub fn run(
     Ok(Status::Accepted)
 }
 
-/// The listing, or the status and the line that tell why there is none.
-pub fn listing(source: &Source, bytes: &[u8]) -> Result<Listing, (Status, String)> {
-    Log::new(bytes).try_listing().map_err(|e| match e {
-        ListingError::Refused(refusal) => {
+/// The listing, or the status where there is none, after telling why.
+pub fn listed(
+    source: &Source,
+    bytes: &[u8],
+    progress: Progress,
+) -> Result<(Listing, Progress), Status> {
+    let (status, why) = match Log::new(bytes).try_listing() {
+        Ok(listing) => {
+            progress.has_listed(listing.counts().changes);
+            return Ok((listing, progress));
+        }
+        Err(ListingError::Refused(refusal)) => {
             (Status::Refused, check::refused(source, bytes, &refusal))
         }
-        ListingError::NoMemory { .. } => (Status::Failed, format!("{}: {e}", source.name())),
-    })
+        Err(e) => (Status::Failed, format!("{}: {e}", source.name())),
+    };
+    // its line must be gone before another is printed
+    drop(progress);
+    complain(&why);
+    Err(status)
 }
 
 fn plain(entry: &Entry, out: &mut Output) {

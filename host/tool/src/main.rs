@@ -11,6 +11,7 @@ mod list;
 mod output;
 mod parallel;
 mod progress;
+mod quoted;
 mod show;
 mod sql;
 
@@ -70,7 +71,7 @@ fn one(job: &Job, source: &Source, out: &mut Output) -> io::Result<Status> {
     };
     progress.has_read(bytes.len());
     match job.command {
-        Command::Check => check::run(source, &bytes, job.json, out),
+        Command::Check => check::run(source, &bytes, job.json, out, progress),
         Command::List => list::run(source, &bytes, job.json, out, progress),
         Command::Show => show::run(source, &bytes, job.json, out, progress),
     }

@@ -5,9 +5,10 @@ use std::sync::mpsc::{Receiver, SyncSender};
 
 /// The buffer's size. It is written out when it is full.
 const SIZE: usize = 1 << 16;
+pub type Buffer = Box<[u8; SIZE]>;
 
 pub struct Output {
-    buffer: Box<[u8]>,
+    buffer: Buffer,
     /// How much of the buffer is filled.
     at: usize,
     sink: Sink,
@@ -18,12 +19,12 @@ pub struct Output {
 enum Sink {
     Standard(Stdout),
     /// Buffers go to another thread, and come back empty.
-    Thread(SyncSender<Piece>, Receiver<Box<[u8]>>),
+    Thread(SyncSender<Piece>, Receiver<Buffer>),
 }
 
 /// A buffer on its way to the thread that prints.
 pub struct Piece {
-    pub buffer: Box<[u8]>,
+    pub buffer: Buffer,
     filled: usize,
     /// Whether it ends what belongs together.
     pub is_last: bool,
@@ -35,8 +36,8 @@ impl Piece {
     }
 }
 
-fn fresh() -> Box<[u8]> {
-    vec![0; SIZE].into_boxed_slice()
+fn fresh() -> Buffer {
+    Box::new([0; SIZE])
 }
 
 /// The numbers 00 to 99, two digits each.
@@ -60,10 +61,10 @@ pub fn pair(n: u32) -> [u8; 2] {
 /// lowest: halves, then quarters, then digits, all of them at once.
 #[inline]
 fn eight(n: u64) -> u64 {
-    let halves = n / 10_000 | (n % 10_000) << 32;
-    let hundreds = (halves * 10_486 >> 20) & 0x0000_007f_0000_007f;
+    let halves = (n / 10_000) | ((n % 10_000) << 32);
+    let hundreds = ((halves * 10_486) >> 20) & 0x0000_007f_0000_007f;
     let quarters = hundreds | (halves - 100 * hundreds) << 16;
-    let tens = (quarters * 103 >> 10) & 0x000f_000f_000f_000f;
+    let tens = ((quarters * 103) >> 10) & 0x000f_000f_000f_000f;
     tens | (quarters - 10 * tens) << 8
 }
 
@@ -72,19 +73,31 @@ const E8: u64 = 100_000_000;
 
 impl Output {
     pub fn standard() -> Output {
-        Output { buffer: fresh(), at: 0, sink: Sink::Standard(io::stdout()), lost: None }
+        Output {
+            buffer: fresh(),
+            at: 0,
+            sink: Sink::Standard(io::stdout()),
+            lost: None,
+        }
     }
 
     /// Output for another thread to print.
-    pub fn to(pieces: SyncSender<Piece>, buffers: Receiver<Box<[u8]>>) -> Output {
-        Output { buffer: fresh(), at: 0, sink: Sink::Thread(pieces, buffers), lost: None }
+    pub fn to(pieces: SyncSender<Piece>, buffers: Receiver<Buffer>) -> Output {
+        Output {
+            buffer: fresh(),
+            at: 0,
+            sink: Sink::Thread(pieces, buffers),
+            lost: None,
+        }
     }
 
-    /// Signs of a number that is fixed, of which the first `used` count.
+    /// Signs of which the first `used` count. Copying all of them is quicker.
     #[inline]
     pub fn some<const N: usize>(&mut self, signs: &[u8; N], used: usize) {
-        if self.buffer.len() - self.at < N {
+        if self.at > SIZE - N {
             self.drain();
+            // said again for the compiler, which then needs no other test
+            self.at = 0;
         }
         if let Some(room) = self.buffer.get_mut(self.at..self.at + N) {
             room.copy_from_slice(signs);
@@ -105,7 +118,7 @@ impl Output {
 
     pub fn bytes(&mut self, bytes: &[u8]) {
         for run in bytes.chunks(SIZE) {
-            if self.buffer.len() - self.at < run.len() {
+            if run.len() > SIZE - self.at {
                 self.drain();
             }
             if let Some(room) = self.buffer.get_mut(self.at..self.at + run.len()) {
@@ -122,48 +135,39 @@ impl Output {
             return self.leading(n);
         }
         let high = n / E8;
+        let low = eight(n - high * E8) | ASCII_ZEROS;
+        let [tens, ones] = pair(high as u32);
         match high {
-            0..=99 => self.leading_pair(high),
-            _ => self.leading_long(high),
+            0..=9 => self.some(&(u128::from(low) << 8 | u128::from(ones)).to_le_bytes(), 9),
+            10..=99 => {
+                let front = u128::from(u16::from_le_bytes([tens, ones]));
+                self.some(&(u128::from(low) << 16 | front).to_le_bytes(), 10);
+            }
+            _ => {
+                self.above(high);
+                self.signs(&low.to_le_bytes());
+            }
         }
-        self.padded(n - high * E8);
     }
 
-    /// A number below 184,467,440,738 without zeros before it.
-    fn leading_long(&mut self, n: u64) {
-        if n < E8 {
+    /// The digits of a number that has eight more after them.
+    fn above(&mut self, n: u64) {
+        let high = n / E8;
+        if high == 0 {
             return self.leading(n);
         }
-        self.leading(n / E8);
-        self.padded(n % E8);
+        self.leading(high);
+        self.signs(&(eight(n - high * E8) | ASCII_ZEROS).to_le_bytes());
     }
 
-    /// A number below 100 without zeros before it.
-    #[inline]
-    fn leading_pair(&mut self, n: u64) {
-        let [tens, ones] = pair(n as u32);
-        match n {
-            0..=9 => self.byte(ones),
-            _ => self.signs(&[tens, ones]),
-        }
-    }
-
-    /// A number below 100,000,000 without zeros before it.
+    /// A number below 100,000,000.
     #[inline]
     fn leading(&mut self, n: u64) {
-        if n < 100 {
-            return self.leading_pair(n);
-        }
         let digits = eight(n);
-        let zeros = digits.trailing_zeros() / 8;
+        // the last digit stays, of 0 too
+        let zeros = (digits.trailing_zeros() / 8).min(7);
         let signs = ((digits | ASCII_ZEROS) >> (8 * zeros)).to_le_bytes();
         self.some(&signs, 8 - zeros as usize);
-    }
-
-    /// A number below 100,000,000 in eight digits.
-    #[inline]
-    fn padded(&mut self, n: u64) {
-        self.signs(&(eight(n) | ASCII_ZEROS).to_le_bytes());
     }
 
     #[inline]
@@ -189,7 +193,10 @@ impl Output {
     pub fn hex(&mut self, bytes: &[u8]) {
         const DIGITS: &[u8; 16] = b"0123456789abcdef";
         for byte in bytes {
-            self.signs(&[DIGITS[usize::from(byte >> 4)], DIGITS[usize::from(byte & 15)]]);
+            self.signs(&[
+                DIGITS[usize::from(byte >> 4)],
+                DIGITS[usize::from(byte & 15)],
+            ]);
         }
     }
 
@@ -212,7 +219,11 @@ impl Output {
             Sink::Thread(pieces, buffers) => {
                 let empty = buffers.try_recv().unwrap_or_else(|_| fresh());
                 let buffer = std::mem::replace(&mut self.buffer, empty);
-                let sent = pieces.send(Piece { buffer, filled, is_last });
+                let sent = pieces.send(Piece {
+                    buffer,
+                    filled,
+                    is_last,
+                });
                 sent.err().map(|_| io::ErrorKind::BrokenPipe.into())
             }
         };

@@ -1,6 +1,6 @@
 //! Work that is done in parts at once and printed in order.
 
-use crate::output::{Output, Piece};
+use crate::output::{Buffer, Output, Piece};
 use std::io;
 use std::ops::Range;
 use std::sync::mpsc::{self, Receiver, Sender, SyncSender};
@@ -10,7 +10,7 @@ use std::thread::{self, Scope};
 const AHEAD: usize = 32;
 
 /// What a worker has made, in order, and the way back for its buffers.
-type Queue = (Receiver<Piece>, Sender<Box<[u8]>>);
+type Queue = (Receiver<Piece>, Sender<Buffer>);
 
 /// Does the work of every span, and prints what it puts out in their order.
 /// After each span `done` is told the span's end.
@@ -26,7 +26,13 @@ where
     let processors = thread::available_parallelism().map_or(1, |count| count.get());
     let workers = processors.min(spans.len());
     thread::scope(|scope| {
-        let start = |first| spawn(scope, spans.iter().skip(first).step_by(workers).cloned(), work);
+        let start = |first| {
+            spawn(
+                scope,
+                spans.iter().skip(first).step_by(workers).cloned(),
+                work,
+            )
+        };
         let queues = match workers {
             0 | 1 => Err(io::ErrorKind::Unsupported.into()),
             _ => (0..workers).map(start).collect::<io::Result<Vec<Queue>>>(),

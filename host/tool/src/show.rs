@@ -1,6 +1,5 @@
 //! `show`: every change with its values.
 
-use crate::complain;
 use crate::input::Source;
 use crate::json;
 use crate::layout::{self, Partition};
@@ -23,6 +22,7 @@ pub struct Table<'a> {
     map: usize,
     pub database: &'a [u8],
     pub name: &'a [u8],
+    /// Its columns, and perhaps more of a wider table before it.
     columns: Vec<Column>,
     /// Kept for its memory.
     digits: Vec<u8>,
@@ -37,7 +37,13 @@ pub struct Column {
 
 impl<'a> Table<'a> {
     fn none() -> Table<'a> {
-        Table { map: 0, database: &[], name: &[], columns: Vec::new(), digits: Vec::new() }
+        Table {
+            map: 0,
+            database: &[],
+            name: &[],
+            columns: Vec::new(),
+            digits: Vec::new(),
+        }
     }
 
     /// Makes this the table of the change.
@@ -57,7 +63,6 @@ impl<'a> Table<'a> {
             self.digits.clear();
         }
         self.digits.resize(change.columns(), 6);
-        self.columns.truncate(change.columns());
         while self.columns.len() < change.columns() {
             let start = Start::of(self.columns.len());
             self.columns.push(Column { start, digits: 0 });
@@ -80,15 +85,10 @@ pub fn run(
     out: &mut Output,
     progress: Progress,
 ) -> io::Result<Status> {
-    let listing = match list::listing(source, bytes) {
-        Ok(listing) => listing,
-        Err((status, why)) => {
-            drop(progress);
-            complain(&why);
-            return Ok(status);
-        }
+    let (listing, progress) = match list::listed(source, bytes, progress) {
+        Ok(both) => both,
+        Err(status) => return Ok(status),
     };
-    progress.has_listed(listing.counts().changes);
     let work = |span: Range<usize>, out: &mut Output| some(bytes, &listing, span, as_json, out);
     parallel::in_order(&spans(&listing), out, &work, |done| progress.has_done(done))?;
     Ok(Status::Accepted)
@@ -119,7 +119,10 @@ fn some(
     as_json: bool,
     out: &mut Output,
 ) -> io::Result<()> {
-    let before = span.start.checked_sub(1).and_then(|last| listing.entry(last));
+    let before = span
+        .start
+        .checked_sub(1)
+        .and_then(|last| listing.entry(last));
     let mut event = before.map_or(0, |entry| entry.event());
     let mut table = Table::none();
     for (k, change) in span.clone().zip(Log::new(bytes).changes_in(listing, span)) {
@@ -142,7 +145,9 @@ fn some(
 fn partition(bytes: &[u8], change: &Change<'_>, out: &mut Output) {
     let entry = change.entry();
     let kind = entry.event_type() as u8;
-    let Some(partition) = layout::partition(bytes, entry.event(), kind) else { return };
+    let Some(partition) = layout::partition(bytes, entry.event(), kind) else {
+        return;
+    };
     out.signs(b"### Extra row info for partitioning: ");
     match partition {
         Partition::One(number) => {

@@ -2,6 +2,7 @@
 
 use crate::float;
 use crate::output::{pair, Output};
+use crate::quoted::quoted;
 use crate::show::Table;
 use tegmeadow::{Cell, Change, ColumnType, Image, Kind, Value};
 
@@ -117,7 +118,7 @@ fn stored(kind: ColumnType, value: Value<'_>, digits: u8, out: &mut Output) {
             time(t, digits, out);
             out.byte(b'\'');
         }
-        Value::Text(bytes) => text(bytes, out),
+        Value::Text(bytes) => quoted(bytes, b'\'', control, out),
     }
 }
 
@@ -177,44 +178,6 @@ fn clock(hour: u32, minute: u8, second: u8, out: &mut Output) {
     }
     let ([a, b], [c, d], [e, f]) = (pair(hour), pair(minute.into()), pair(second.into()));
     out.signs(&[a, b, b':', c, d, b':', e, f]);
-}
-
-/// Text in quotes. Runs with nothing to escape are copied whole.
-#[inline]
-fn text(bytes: &[u8], out: &mut Output) {
-    out.byte(b'\'');
-    let (runs, tail) = bytes.as_chunks::<8>();
-    for run in runs {
-        if has_escaped(u64::from_le_bytes(*run)) {
-            run.iter().for_each(|&byte| escaped(byte, out));
-        } else {
-            out.signs(run);
-        }
-    }
-    tail.iter().for_each(|&byte| escaped(byte, out));
-    out.byte(b'\'');
-}
-
-/// Whether one of eight bytes is below 0x20, a quote or a backslash.
-#[inline]
-fn has_escaped(eight: u64) -> bool {
-    const ONES: u64 = u64::from_ne_bytes([1; 8]);
-    const HIGH: u64 = ONES << 7;
-    // the highest bit of a byte below n, if no byte before it is
-    let below = |x: u64, n: u64| x.wrapping_sub(ONES * n) & !x & HIGH;
-    let quote = eight ^ (ONES * u64::from(b'\''));
-    let backslash = eight ^ (ONES * u64::from(b'\\'));
-    below(eight, 0x20) | below(quote, 1) | below(backslash, 1) != 0
-}
-
-#[inline]
-fn escaped(byte: u8, out: &mut Output) {
-    match byte {
-        b'\'' => out.signs(b"\\'"),
-        b'\\' => out.signs(b"\\\\"),
-        0..=0x1f => control(byte, out),
-        _ => out.byte(byte),
-    }
 }
 
 #[cold]

@@ -13,7 +13,9 @@ pub fn program() -> Command {
 
 /// A file of the repository.
 pub fn file(path: &str) -> PathBuf {
-    Path::new(env!("CARGO_MANIFEST_DIR")).join("../..").join(path)
+    Path::new(env!("CARGO_MANIFEST_DIR"))
+        .join("../..")
+        .join(path)
 }
 
 /// The log of 004, whose changes the scope paper lists.
@@ -23,7 +25,11 @@ pub fn log_004() -> PathBuf {
 
 /// Runs the program; no run may panic, whatever it reads.
 pub fn run<S: AsRef<OsStr>>(words: impl IntoIterator<Item = S>) -> Output {
-    let output = program().args(words).stdin(Stdio::null()).output().expect("the program runs");
+    let output = program()
+        .args(words)
+        .stdin(Stdio::null())
+        .output()
+        .expect("the program runs");
     sound(output)
 }
 
@@ -49,10 +55,63 @@ pub fn run_on<S: AsRef<OsStr>>(words: impl IntoIterator<Item = S>, bytes: &[u8])
 fn sound(output: Output) -> Output {
     let said = String::from_utf8_lossy(&output.stderr);
     assert!(!said.contains("panicked"), "{said}");
-    assert!(matches!(output.status.code(), Some(0..=2)), "{:?}", output.status);
+    assert!(
+        matches!(output.status.code(), Some(0..=2)),
+        "{:?}",
+        output.status
+    );
     output
 }
 
 pub fn text(bytes: &[u8]) -> String {
     String::from_utf8_lossy(bytes).into_owned()
+}
+
+/// The log of extreme values.
+pub fn extremes() -> Vec<u8> {
+    std::fs::read(file("host/tool/tests/data/extremes.binlog")).expect("the log")
+}
+
+/// An event's length (01, Framing).
+pub fn length_at(log: &[u8], event: usize) -> usize {
+    let bytes = log[event + 9..event + 13].try_into().expect("four bytes");
+    u32::from_le_bytes(bytes) as usize
+}
+
+/// A log whose events after the description stand there so many times.
+pub fn repeated(log: &[u8], times: usize) -> Vec<u8> {
+    let first = 4 + length_at(log, 4);
+    let mut long = log[..first].to_vec();
+    for _ in 0..times {
+        let mut event = first;
+        while event < log.len() {
+            let length = length_at(log, event);
+            append(&mut long, log[event..event + length - 4].to_vec());
+            event += length;
+        }
+    }
+    long
+}
+
+/// Appends an event, given without its checksum, with its length, its next
+/// position and its checksum made right.
+pub fn append(log: &mut Vec<u8>, mut event: Vec<u8>) {
+    let length = event.len() as u32 + 4;
+    event[9..13].copy_from_slice(&length.to_le_bytes());
+    event[13..17].copy_from_slice(&(log.len() as u32 + length).to_le_bytes());
+    let sum = crc32(&event).to_le_bytes();
+    log.extend(event.into_iter().chain(sum));
+}
+
+fn crc32(bytes: &[u8]) -> u32 {
+    let step = |crc: u32, _| {
+        if crc & 1 == 1 {
+            crc >> 1 ^ 0xEDB8_8320
+        } else {
+            crc >> 1
+        }
+    };
+    !bytes
+        .iter()
+        .fold(!0, |crc, byte| (0..8).fold(crc ^ u32::from(*byte), step))
 }

@@ -67,6 +67,10 @@ def floats(log):
         for factor in (1, 9.999995, 9.999994, 5):
             n = factor * 10.0 ** power
             rows.append(b"\0" + struct.pack("<fd", n, n))
+    # halfway between two numbers of six digits, of twenty digits
+    short = [1000005, 1000015, 1234565, 1234575, 9999995, 100000.5, 100001.5, 12345.25, 999999.5]
+    long = [n % 9 + 1 + (2 * n + 1) / 2 ** 20 for n in range(0, 2 ** 19, 60000)]
+    rows += [b"\0" + struct.pack("<fd", *pair) for pair in zip(short, long)]
     log.rows(30, 2, 2, rows)
 
 
