@@ -19,7 +19,10 @@ fn main() {
     println!("cargo:rustc-link-search=native={}", folder.display());
     println!("cargo:rustc-link-lib=static=tegmeadow");
     // the tests compare the archive's symbols with the declarations
-    println!("cargo:rustc-env=TEGMEADOW_ARCHIVE={}", folder.join(ARCHIVE).display());
+    println!(
+        "cargo:rustc-env=TEGMEADOW_ARCHIVE={}",
+        folder.join(ARCHIVE).display()
+    );
 }
 
 /// The folder of TEGMEADOW_LIB, or that of the repository, filled if need be.
@@ -28,11 +31,17 @@ fn archive_folder() -> Result<PathBuf, String> {
         let folder = PathBuf::from(folder);
         return match folder.join(ARCHIVE).is_file() {
             true => Ok(folder),
-            false => Err(format!("TEGMEADOW_LIB: no {ARCHIVE} in {}", folder.display())),
+            false => Err(format!(
+                "TEGMEADOW_LIB: no {ARCHIVE} in {}",
+                folder.display()
+            )),
         };
     }
     let here = env::var_os("CARGO_MANIFEST_DIR").ok_or("CARGO_MANIFEST_DIR is not set")?;
-    let root = Path::new(&here).join("../..").canonicalize().map_err(|e| e.to_string())?;
+    let root = Path::new(&here)
+        .join("../..")
+        .canonicalize()
+        .map_err(|e| e.to_string())?;
     let folder = root.join("target/staticlib");
     if !folder.join(ARCHIVE).is_file() {
         make(&root)?;
@@ -42,10 +51,15 @@ fn archive_folder() -> Result<PathBuf, String> {
 
 /// Proves the library and writes the archive.
 fn make(root: &Path) -> Result<(), String> {
-    let run = Command::new("rt").args(["staticlib", "tegmeadow"]).current_dir(root).status();
+    let run = Command::new("rt")
+        .args(["staticlib", "tegmeadow"])
+        .current_dir(root)
+        .status();
     match run {
         Ok(status) if status.success() => Ok(()),
         Ok(status) => Err(format!("rt staticlib tegmeadow: {status}")),
-        Err(e) => Err(format!("rt staticlib tegmeadow: {e} (is the Rattle toolchain there?)")),
+        Err(e) => Err(format!(
+            "rt staticlib tegmeadow: {e} (is the Rattle toolchain there?)"
+        )),
     }
 }

@@ -52,6 +52,20 @@ pub fn changed_bytes(made: &Made, at: usize) -> Option<(usize, &'static [u32])> 
     }
 }
 
+/// The log with byte `at` changed and its event's checksum repaired; `None`
+/// for a byte of a length, a next position or a checksum.
+pub fn repaired(made: &Made, at: usize, new: u8) -> Option<Vec<u8>> {
+    let which = made.starts.iter().rposition(|start| *start <= at)?;
+    let offset = at - made.starts[which];
+    let sheet = made.draft.sheets.get(which)?;
+    if (9..17).contains(&offset) || offset >= sheet.bytes.len() {
+        return None;
+    }
+    let mut draft = made.draft.clone();
+    draft.sheets[which].bytes[offset] = new;
+    Some(draft.assemble().0)
+}
+
 /// The log with a few bytes of one event changed, put in or left out, mostly
 /// near the borders of its parts; lengths, positions and checksums agree.
 pub fn touched(rng: &mut Rng, made: &Made) -> Vec<u8> {

@@ -52,6 +52,7 @@ pub fn damage(rng: &mut Rng, made: &Made, number: u32) -> Option<Damaged> {
         12 if rng.once_in(6) => bad_seventeenth(rng, &mut draft, made),
         12 | 13 => table_map(rng, &mut draft, number),
         14 => too_many_live(rng, &mut draft, made),
+        15 if rng.once_in(2) => stray_rows(rng, &mut draft, made),
         15..=18 => rows(rng, &mut draft, made, number),
         _ => None,
     }?;
@@ -525,6 +526,29 @@ fn rows(rng: &mut Rng, draft: &mut Draft, made: &Made, number: u32) -> Option<Fa
             return Some(Fault { sheet: at, offset });
         }
     }
+    Fault::event(at)
+}
+
+/// A sound rows event once more where its map isn't live: before the map, or
+/// after a statement end.
+fn stray_rows(rng: &mut Rng, draft: &mut Draft, made: &Made) -> Option<Fault> {
+    let events = &made.tree.events;
+    let all = events.iter().enumerate();
+    let rows: Vec<(usize, u64)> = all
+        .filter_map(|(at, event)| match &event.body {
+            Body::Rows(rows) => Some((at + 1, rows.id)),
+            _ => None,
+        })
+        .collect();
+    if rows.is_empty() {
+        return None;
+    }
+    let (from, id) = rng.pick(&rows);
+    let places: Vec<usize> = (0..=events.len())
+        .filter(|at| !live(&events[..*at]).contains(&id))
+        .collect();
+    let at = rng.pick(&places) + 1;
+    draft.sheets.insert(at, draft.sheets[from].clone());
     Fault::event(at)
 }
 

@@ -17,7 +17,7 @@ mod truth;
 mod valid;
 mod values;
 
-pub use bytes::{changed_bytes, cuts, touched, Cut};
+pub use bytes::{changed_bytes, cuts, repaired, touched, Cut};
 pub use damage::{damage, unmarked, Damaged};
 pub use longer::{longer, Longer};
 pub use print::{made, Made};

@@ -152,11 +152,18 @@ pub(crate) fn part(log: &[u8], (place, length): (usize, usize)) -> &[u8] {
 }
 
 fn date(year: u64, month: u64, day: u64) -> Date {
-    Date { year: year as u32, month: month as u8, day: day as u8 }
+    Date {
+        year: year as u32,
+        month: month as u8,
+        day: day as u8,
+    }
 }
 
 fn timestamp(seconds: u64, microseconds: u64) -> Timestamp {
-    Timestamp { seconds: seconds as u32, microseconds: microseconds as u32 }
+    Timestamp {
+        seconds: seconds as u32,
+        microseconds: microseconds as u32,
+    }
 }
 
 #[inline(always)]

@@ -66,11 +66,18 @@ impl<'a> Changes<'a> {
         self.tables.clear();
         self.first = self.next;
         self.given = 0;
-        let rest = self.numbers.get(self.next.saturating_mul(5)..).unwrap_or_default();
+        let rest = self
+            .numbers
+            .get(self.next.saturating_mul(5)..)
+            .unwrap_or_default();
         let mut cells = 0;
         for numbers in rest.chunks_exact(5) {
-            let Some(entry) = numbers.first_chunk::<5>() else { break };
-            let Some(table) = table(self.log, entry, &mut self.last) else { break };
+            let Some(entry) = numbers.first_chunk::<5>() else {
+                break;
+            };
+            let Some(table) = table(self.log, entry, &mut self.last) else {
+                break;
+            };
             let more = images(entry) * table.columns;
             if cells > 0 && cells + more > BLOCK {
                 break;
@@ -96,7 +103,11 @@ fn whole_changes(listing: &[u32], tables: &[Table], mut cells: usize) -> usize {
         cells = left.unwrap_or(0);
         left.is_some()
     };
-    listing.chunks_exact(5).zip(tables).take_while(is_whole).count()
+    listing
+        .chunks_exact(5)
+        .zip(tables)
+        .take_while(is_whole)
+        .count()
 }
 
 /// A block of at least so many cells to write into: this one, or a new one
@@ -105,7 +116,9 @@ fn free_block(block: &mut Rc<Vec<CellNumbers>>, cells: usize) -> &mut [CellNumbe
     if block.len() < cells || Rc::get_mut(block).is_none() {
         *block = Rc::new(vec![CellNumbers::default(); cells.max(BLOCK)]);
     }
-    Rc::get_mut(block).map(Vec::as_mut_slice).unwrap_or_default()
+    Rc::get_mut(block)
+        .map(Vec::as_mut_slice)
+        .unwrap_or_default()
 }
 
 /// The table at an entry. Entries with one map have one table.
@@ -136,7 +149,13 @@ impl<'a> Iterator for Changes<'a> {
         let start = self.given;
         self.given += images(&entry) * table.columns;
         self.next += 1;
-        Some(Change { log: self.log, entry: Entry(entry), table, block: self.block.clone(), start })
+        Some(Change {
+            log: self.log,
+            entry: Entry(entry),
+            table,
+            block: self.block.clone(),
+            start,
+        })
     }
 
     fn size_hint(&self) -> (usize, Option<usize>) {
@@ -206,14 +225,21 @@ impl<'a> Change<'a> {
     #[inline]
     pub fn after(&self) -> Option<Image<'_, 'a>> {
         self.entry.after()?;
-        let skipped = if self.entry.before().is_some() { self.table.columns } else { 0 };
+        let skipped = if self.entry.before().is_some() {
+            self.table.columns
+        } else {
+            0
+        };
         self.image(self.start + skipped)
     }
 
     #[inline]
     fn image(&self, start: usize) -> Option<Image<'_, 'a>> {
         let cells = self.block.get(start..start + self.table.columns)?;
-        Some(Image { log: self.log, cells })
+        Some(Image {
+            log: self.log,
+            cells,
+        })
     }
 }
 
@@ -238,13 +264,18 @@ impl<'c, 'a> Image<'c, 'a> {
     /// The cell of a column, counted from 0.
     #[inline]
     pub fn cell(&self, column: usize) -> Option<Cell<'a>> {
-        self.cells.get(column).map(|numbers| Cell::of(self.log, numbers))
+        self.cells
+            .get(column)
+            .map(|numbers| Cell::of(self.log, numbers))
     }
 
     /// The cells, from column 0.
     #[inline]
     pub fn cells(&self) -> Cells<'c, 'a> {
-        Cells { log: self.log, cells: self.cells.iter() }
+        Cells {
+            log: self.log,
+            cells: self.cells.iter(),
+        }
     }
 }
 
@@ -281,7 +312,8 @@ impl<'a> Iterator for Cells<'_, 'a> {
     #[inline(always)]
     fn fold<B, F: FnMut(B, Cell<'a>) -> B>(self, first: B, mut f: F) -> B {
         let log = self.log;
-        self.cells.fold(first, |so_far, numbers| f(so_far, Cell::of(log, numbers)))
+        self.cells
+            .fold(first, |so_far, numbers| f(so_far, Cell::of(log, numbers)))
     }
 }
 

@@ -142,7 +142,13 @@ pub fn check(log: &[u8]) -> Walked {
     let mut w = Walked::default();
     // SAFETY: the log's own pointer and length; three numbers of this frame.
     w.answer = unsafe {
-        tegmeadow_check(log.as_ptr(), log.len(), &mut w.place, &mut w.events, &mut w.changes)
+        tegmeadow_check(
+            log.as_ptr(),
+            log.len(),
+            &mut w.place,
+            &mut w.events,
+            &mut w.changes,
+        )
     };
     w
 }
@@ -199,7 +205,15 @@ pub fn value(log: &[u8], k: usize, side: usize, column: usize) -> (Answer, CellN
     let (mut a, mut cell) = (Answer::default(), CellNumbers::default());
     // SAFETY: as in `change`.
     a.number = unsafe {
-        tegmeadow_value(log.as_ptr(), log.len(), k, side, column, &mut a.place, &mut cell)
+        tegmeadow_value(
+            log.as_ptr(),
+            log.len(),
+            k,
+            side,
+            column,
+            &mut a.place,
+            &mut cell,
+        )
     };
     (a, cell)
 }
@@ -208,7 +222,15 @@ pub fn text(log: &[u8], k: usize, side: usize, column: usize) -> Part {
     let (mut place, mut length) = (0, 0);
     // SAFETY: as in `change`.
     unsafe {
-        tegmeadow_text(log.as_ptr(), log.len(), k, side, column, &mut place, &mut length)
+        tegmeadow_text(
+            log.as_ptr(),
+            log.len(),
+            k,
+            side,
+            column,
+            &mut place,
+            &mut length,
+        )
     };
     (place, length)
 }
@@ -216,9 +238,8 @@ pub fn text(log: &[u8], k: usize, side: usize, column: usize) -> Part {
 pub fn change_at(log: &[u8], entry: &EntryNumbers) -> Option<Table> {
     let mut t = Table::default();
     // SAFETY: as in `change`; the entry is an array of five.
-    let answer = unsafe {
-        tegmeadow_change_at(log.as_ptr(), log.len(), entry, &mut t.id, &mut t.columns)
-    };
+    let answer =
+        unsafe { tegmeadow_change_at(log.as_ptr(), log.len(), entry, &mut t.id, &mut t.columns) };
     (answer == 0).then_some(t)
 }
 
@@ -252,7 +273,15 @@ pub fn text_at(log: &[u8], entry: &EntryNumbers, side: usize, column: usize) -> 
     let (mut place, mut length) = (0, 0);
     // SAFETY: as in `change_at`.
     unsafe {
-        tegmeadow_text_at(log.as_ptr(), log.len(), entry, side, column, &mut place, &mut length)
+        tegmeadow_text_at(
+            log.as_ptr(),
+            log.len(),
+            entry,
+            side,
+            column,
+            &mut place,
+            &mut length,
+        )
     };
     (place, length)
 }
@@ -261,11 +290,17 @@ pub fn text_at(log: &[u8], entry: &EntryNumbers, side: usize, column: usize) -> 
 pub fn values(log: &[u8], listing: &[u32], cells: &mut [CellNumbers]) -> usize {
     let mut written = 0;
     for numbers in listing.chunks_exact(5) {
-        let Some(entry) = numbers.first_chunk::<5>() else { return written };
-        let Some(table) = change_at(log, entry) else { return written };
+        let Some(entry) = numbers.first_chunk::<5>() else {
+            return written;
+        };
+        let Some(table) = change_at(log, entry) else {
+            return written;
+        };
         for side in (0..2).filter(|side| numbers.get(3 + side) != Some(&0)) {
             for column in 0..table.columns {
-                let Some(cell) = cells.get_mut(written) else { return written };
+                let Some(cell) = cells.get_mut(written) else {
+                    return written;
+                };
                 if !value_at(log, entry, side, column, cell) {
                     return written;
                 }

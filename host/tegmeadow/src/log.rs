@@ -97,7 +97,9 @@ impl Listing {
 pub enum ListingError {
     Refused(Refusal),
     /// There is no memory for the numbers of this many changes.
-    NoMemory { changes: usize },
+    NoMemory {
+        changes: usize,
+    },
 }
 
 impl fmt::Display for ListingError {
@@ -171,7 +173,10 @@ impl<'a> Log<'a> {
         // four bytes is rare, and memory that is not written costs nothing.
         if let Some(numbers) = ffi::zeros(self.bytes.len() / 4 * 5) {
             match self.listing_in(numbers) {
-                Err(Refusal { number: BUFFER_TOO_SHORT, .. }) => {}
+                Err(Refusal {
+                    number: BUFFER_TOO_SHORT,
+                    ..
+                }) => {}
                 Err(refusal) => return Err(refusal.into()),
                 Ok(listing) => return Ok(listing),
             }
@@ -192,7 +197,11 @@ impl<'a> Log<'a> {
     /// Every change, in log order, by one walk.
     pub fn changes(&self) -> Result<Changes<'a>, Refusal> {
         let listing = self.listing()?;
-        Ok(Changes::new(self.bytes, listing.counts, listing.numbers.into()))
+        Ok(Changes::new(
+            self.bytes,
+            listing.counts,
+            listing.numbers.into(),
+        ))
     }
 
     /// Some changes of a listing of this log, by their numbers from 0; those
@@ -209,7 +218,11 @@ impl<'a> Log<'a> {
     pub fn change(&self, k: usize) -> Result<ChangeInfo, Refusal> {
         let (answer, entry, table) = ffi::change(self.bytes, k);
         accepted(answer)?;
-        Ok(ChangeInfo { entry: Entry(entry), table_id: table.id, columns: table.columns })
+        Ok(ChangeInfo {
+            entry: Entry(entry),
+            table_id: table.id,
+            columns: table.columns,
+        })
     }
 
     /// What a column of change `k` holds on a side.
@@ -243,7 +256,11 @@ impl<'a> Log<'a> {
     /// The change at an entry.
     pub fn change_at(&self, entry: &Entry) -> Option<ChangeInfo> {
         let table = ffi::change_at(self.bytes, &entry.0)?;
-        Some(ChangeInfo { entry: *entry, table_id: table.id, columns: table.columns })
+        Some(ChangeInfo {
+            entry: *entry,
+            table_id: table.id,
+            columns: table.columns,
+        })
     }
 
     /// What a column holds on a side.
@@ -265,7 +282,10 @@ impl<'a> Log<'a> {
 
     /// The text or blob of a column.
     pub fn text_at(&self, entry: &Entry, side: Side, column: usize) -> &'a [u8] {
-        part(self.bytes, ffi::text_at(self.bytes, &entry.0, side as usize, column))
+        part(
+            self.bytes,
+            ffi::text_at(self.bytes, &entry.0, side as usize, column),
+        )
     }
 }
 
@@ -278,11 +298,20 @@ impl From<EntryNumbers> for Entry {
 fn accepted(answer: Answer) -> Result<(), Refusal> {
     match answer.number {
         0 => Ok(()),
-        number => Err(Refusal { number, place: answer.place }),
+        number => Err(Refusal {
+            number,
+            place: answer.place,
+        }),
     }
 }
 
 fn counts(walked: Walked) -> Result<Counts, Refusal> {
-    accepted(Answer { number: walked.answer, place: walked.place })?;
-    Ok(Counts { events: walked.events, changes: walked.changes })
+    accepted(Answer {
+        number: walked.answer,
+        place: walked.place,
+    })?;
+    Ok(Counts {
+        events: walked.events,
+        changes: walked.changes,
+    })
 }

@@ -47,7 +47,13 @@ impl Refusal {
 
 impl fmt::Display for Refusal {
     fn fmt(&self, f: &mut fmt::Formatter<'_>) -> fmt::Result {
-        write!(f, "refused {} at {}: {}", self.number, self.place, self.meaning())
+        write!(
+            f,
+            "refused {} at {}: {}",
+            self.number,
+            self.place,
+            self.meaning()
+        )
     }
 }
 

@@ -14,14 +14,19 @@ const MARK: u32 = 0xa5a5_a5a5;
 /// The lines about a log. A side that is none can't be asked for in Rust, so
 /// its lines are left out.
 fn expected(lines: &[String]) -> String {
-    let is_asked = |line: &&String| {
-        !line.starts_with("value ") || line.split(' ').nth(2) != Some("2")
-    };
-    lines.iter().filter(is_asked).flat_map(|line| [line.as_str(), "\n"]).collect()
+    let is_asked =
+        |line: &&String| !line.starts_with("value ") || line.split(' ').nth(2) != Some("2");
+    lines
+        .iter()
+        .filter(is_asked)
+        .flat_map(|line| [line.as_str(), "\n"])
+        .collect()
 }
 
 fn hex(bytes: &[u8]) -> String {
-    bytes.iter().fold(String::from("x"), |text, byte| text + &format!("{byte:02x}"))
+    bytes.iter().fold(String::from("x"), |text, byte| {
+        text + &format!("{byte:02x}")
+    })
 }
 
 fn place(log: &[u8], part: &[u8]) -> usize {
@@ -58,7 +63,10 @@ fn spelled(log: &[u8], cell: &Cell) -> String {
         ),
         Value::Time(t) => {
             let sign = if t.negative { '-' } else { '+' };
-            format!("{kind} {sign} {} {} {} {}", t.hour, t.minute, t.second, t.microseconds)
+            format!(
+                "{kind} {sign} {} {} {} {}",
+                t.hour, t.minute, t.second, t.microseconds
+            )
         }
         Value::Text(text) => format!("{kind} {} {} {}", place(log, text), text.len(), hex(text)),
     }
@@ -116,7 +124,11 @@ fn account(bytes: &[u8]) -> String {
     let mut out = counted(&log.check()) + "\n";
     let listing = log.listing();
     for entry in listing.iter().flat_map(|listing| listing.entries()) {
-        let _ = writeln!(out, "{}", entry.0.map(|number| number.to_string()).join(" "));
+        let _ = writeln!(
+            out,
+            "{}",
+            entry.0.map(|number| number.to_string()).join(" ")
+        );
     }
     if bytes.len() > FEW {
         return out;
@@ -149,23 +161,38 @@ fn the_changes_answer_as_the_questions() {
     for (name, _) in evidence::sections() {
         let bytes = evidence::read(&name);
         let log = Log::new(&bytes);
-        let (Ok(counts), Ok(changes)) = (log.check(), log.changes()) else { continue };
+        let (Ok(counts), Ok(changes)) = (log.check(), log.changes()) else {
+            continue;
+        };
         assert_eq!(changes.len(), counts.changes, "{name}");
         // held, so that what was given out must last
         let held: Vec<_> = changes.collect();
         for (k, change) in held.iter().enumerate() {
             let info = log.change(k).expect("a change");
-            assert_eq!((change.entry(), change.table_id()), (info.entry, info.table_id));
+            assert_eq!(
+                (change.entry(), change.table_id()),
+                (info.entry, info.table_id)
+            );
             assert_eq!(change.database(), log.database_name(k));
             assert_eq!(change.table(), log.table_name(k));
-            for (side, image) in [(Side::Before, change.before()), (Side::After, change.after())] {
+            for (side, image) in [
+                (Side::Before, change.before()),
+                (Side::After, change.after()),
+            ] {
                 let cells = image.map(|image| image.cells().collect::<Vec<_>>());
                 let single = |column| log.value(k, side, column).ok();
                 let singles: Option<Vec<_>> = (0..info.columns).map(single).collect();
                 let spelled = |cells: Vec<Cell>| {
-                    cells.iter().map(|cell| spelled(&bytes, cell)).collect::<Vec<_>>()
+                    cells
+                        .iter()
+                        .map(|cell| spelled(&bytes, cell))
+                        .collect::<Vec<_>>()
                 };
-                assert_eq!(cells.map(spelled), singles.map(spelled), "{name} {k} {side:?}");
+                assert_eq!(
+                    cells.map(spelled),
+                    singles.map(spelled),
+                    "{name} {k} {side:?}"
+                );
             }
             seen += 1;
         }
@@ -175,11 +202,20 @@ fn the_changes_answer_as_the_questions() {
 
 #[test]
 fn a_refusal_speaks_the_papers_words() {
-    let refusal = Refusal { number: 8, place: 389 };
+    let refusal = Refusal {
+        number: 8,
+        place: 389,
+    };
     assert_eq!(refusal.to_string(), "refused 8 at 389: checksum wrong");
     let as_error: &dyn std::error::Error = &refusal;
     assert_eq!(as_error.to_string(), refusal.to_string());
-    assert_eq!(Log::new(b"").check(), Err(Refusal { number: 2, place: 0 }));
+    assert_eq!(
+        Log::new(b"").check(),
+        Err(Refusal {
+            number: 2,
+            place: 0
+        })
+    );
 }
 
 #[test]
@@ -189,7 +225,11 @@ fn a_part_of_a_listing_gives_its_changes() {
     let listing = log.listing().expect("a listing");
     let all: Vec<_> = listing.entries().collect();
     assert!(all.len() > 10);
-    let entries = |some| -> Vec<_> { log.changes_in(&listing, some).map(|it| it.entry()).collect() };
+    let entries = |some| -> Vec<_> {
+        log.changes_in(&listing, some)
+            .map(|it| it.entry())
+            .collect()
+    };
     assert_eq!(entries(0..all.len()), all);
     assert_eq!(entries(3..7), all[3..7]);
     assert_eq!(entries(all.len() - 1..usize::MAX), all[all.len() - 1..]);
@@ -205,7 +245,10 @@ fn a_listing_of_another_log_is_read_as_far_as_it_can_be() {
         let cut = Log::new(&bytes[..length]);
         for change in cut.changes_in(&listing, 0..usize::MAX) {
             let entry = change.entry();
-            for (side, image) in [(Side::Before, change.before()), (Side::After, change.after())] {
+            for (side, image) in [
+                (Side::Before, change.before()),
+                (Side::After, change.after()),
+            ] {
                 for (column, cell) in image.iter().flat_map(|it| it.cells()).enumerate() {
                     assert_eq!(Some(cell), cut.value_at(&entry, side, column));
                 }

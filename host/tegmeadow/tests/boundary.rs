@@ -22,11 +22,16 @@ fn header() -> String {
 }
 
 fn archive_symbols() -> BTreeSet<String> {
-    let nm = Command::new("nm").args(["-g", "--defined-only", env!("TEGMEADOW_ARCHIVE")]).output();
+    let nm = Command::new("nm")
+        .args(["-g", "--defined-only", env!("TEGMEADOW_ARCHIVE")])
+        .output();
     let nm = nm.expect("nm runs");
     assert!(nm.status.success());
     let text = String::from_utf8(nm.stdout).expect("symbols are text");
-    let name = |line: &str| line.split_once(" T ").map(|(_, name)| name.trim().to_string());
+    let name = |line: &str| {
+        line.split_once(" T ")
+            .map(|(_, name)| name.trim().to_string())
+    };
     text.lines().filter_map(name).collect()
 }
 
@@ -34,13 +39,19 @@ fn archive_symbols() -> BTreeSet<String> {
 fn without(text: &str, open: &str, close: &str) -> String {
     let mut parts = text.split(open);
     let first = parts.next().unwrap_or_default().to_string();
-    parts.fold(first, |kept, part| kept + part.split_once(close).map_or("", |(_, after)| after))
+    parts.fold(first, |kept, part| {
+        kept + part.split_once(close).map_or("", |(_, after)| after)
+    })
 }
 
 /// Splits `result name(parameters)` or `name(parameters) -> result`.
 fn around_parentheses(text: &str) -> (&str, &str, &str) {
-    let (before, rest) = text.split_once('(').unwrap_or_else(|| panic!("no ( in {text:?}"));
-    let (inside, after) = rest.rsplit_once(')').unwrap_or_else(|| panic!("no ) in {text:?}"));
+    let (before, rest) = text
+        .split_once('(')
+        .unwrap_or_else(|| panic!("no ( in {text:?}"));
+    let (inside, after) = rest
+        .rsplit_once(')')
+        .unwrap_or_else(|| panic!("no ) in {text:?}"));
     (before.trim(), inside, after.trim())
 }
 
@@ -56,7 +67,10 @@ fn in_c(text: &str) -> Vec<Declaration> {
             result: rust_type(result),
         }
     };
-    text.split(';').filter(|text| text.contains('(')).map(one).collect()
+    text.split(';')
+        .filter(|text| text.contains('('))
+        .map(one)
+        .collect()
 }
 
 /// `const uint8_t *log`, `uint32_t entry[5]` or `size_t k`.
@@ -113,7 +127,11 @@ fn in_rust(text: &str) -> Vec<Declaration> {
             result: after.strip_prefix("->").map_or("()", str::trim).to_string(),
         }
     };
-    block.split_inclusive(";\n").filter(|text| text.contains('(')).map(one).collect()
+    block
+        .split_inclusive(";\n")
+        .filter(|text| text.contains('('))
+        .map(one)
+        .collect()
 }
 
 #[test]
@@ -136,7 +154,10 @@ fn the_archive_has_what_is_declared() {
 fn a_difference_is_noticed() {
     let sound = header();
     let edits = [
-        ("tegmeadow_check(const uint8_t *log", "tegmeadow_check(uint8_t *log"),
+        (
+            "tegmeadow_check(const uint8_t *log",
+            "tegmeadow_check(uint8_t *log",
+        ),
         ("uint64_t cell[8]", "uint64_t cell[7]"),
         ("uint32_t tegmeadow_change(", "uint64_t tegmeadow_change("),
         ("size_t side, size_t column", "size_t column, size_t side"),

@@ -13,9 +13,15 @@ fn root() -> PathBuf {
 
 /// Compiles a program with a compiler and the strictest of its words.
 fn compile(compiler: &[&str], source: &str) -> PathBuf {
-    let stem = Path::new(source).file_stem().expect("a name").to_string_lossy().into_owned();
+    let stem = Path::new(source)
+        .file_stem()
+        .expect("a name")
+        .to_string_lossy()
+        .into_owned();
     let program = Path::new(env!("CARGO_TARGET_TMPDIR")).join(format!("{stem}-{}", compiler[0]));
-    let archive = Path::new(env!("TEGMEADOW_ARCHIVE")).parent().expect("a folder");
+    let archive = Path::new(env!("TEGMEADOW_ARCHIVE"))
+        .parent()
+        .expect("a folder");
     let status = Command::new(compiler[0])
         .args(&compiler[1..])
         .args(["-Wall", "-Wextra", "-pedantic", "-Werror", "-O1"])
@@ -60,12 +66,18 @@ fn the_example_lists_a_log_in_c_and_in_cpp() {
     let bytes = std::fs::read(&log).expect("the log");
     for compiler in [&C[..], &CPP] {
         let program = compile(compiler, "examples/list.c");
-        let run = Command::new(&program).arg(&log).output().expect("the example runs");
+        let run = Command::new(&program)
+            .arg(&log)
+            .output()
+            .expect("the example runs");
         assert_eq!(run.status.code(), Some(0));
         let text = String::from_utf8(run.stdout).expect("text");
         assert_eq!(text, listed(&bytes));
         // (01, Evidence at the desk)
-        assert!(text.contains(" 389 331 421 427\n") && text.contains(" 667 609 698 0\n"), "{text}");
+        assert!(
+            text.contains(" 389 331 421 427\n") && text.contains(" 667 609 698 0\n"),
+            "{text}"
+        );
     }
 }
 

@@ -65,7 +65,9 @@ pub fn parse(words: impl Iterator<Item = OsString>) -> Result<Asked, String> {
             Some("--") if options => options = false,
             Some("--help" | "-h") if options => return Ok(Asked::Say(HELP.into())),
             Some("--version" | "-V") if options => {
-                return Ok(Asked::Say(concat!("tegmeadow ", env!("CARGO_PKG_VERSION"), "\n").into()))
+                return Ok(Asked::Say(
+                    concat!("tegmeadow ", env!("CARGO_PKG_VERSION"), "\n").into(),
+                ))
             }
             Some("--json") if options => json = true,
             Some("-") if command.is_some() => sources.push(Source::Standard),
@@ -83,7 +85,11 @@ pub fn parse(words: impl Iterator<Item = OsString>) -> Result<Asked, String> {
     if sources.is_empty() {
         sources.push(Source::Standard);
     }
-    Ok(Asked::Do(Job { command, json, sources }))
+    Ok(Asked::Do(Job {
+        command,
+        json,
+        sources,
+    }))
 }
 
 fn command_of(word: Option<&str>) -> Result<Command, String> {

@@ -31,12 +31,20 @@ pub fn run(
     }
     // each line as soon as it is known
     out.flush()?;
-    Ok(if answer.is_ok() { Status::Accepted } else { Status::Refused })
+    Ok(if answer.is_ok() {
+        Status::Accepted
+    } else {
+        Status::Refused
+    })
 }
 
 fn accepted(source: &Source, counts: &Counts, out: &mut Output) {
     let Counts { events, changes } = counts;
-    let _ = writeln!(out, "{}: accepted, {events} events, {changes} changes", source.name());
+    let _ = writeln!(
+        out,
+        "{}: accepted, {events} events, {changes} changes",
+        source.name()
+    );
 }
 
 /// What is said of a refused log.
@@ -57,7 +65,10 @@ fn accepted_json(source: &Source, counts: &Counts, out: &mut Output) {
     let Counts { events, changes } = counts;
     out.signs(b"{\"file\":");
     json::string(out, &source.name());
-    let _ = writeln!(out, ",\"accepted\":true,\"events\":{events},\"changes\":{changes}}}");
+    let _ = writeln!(
+        out,
+        ",\"accepted\":true,\"events\":{events},\"changes\":{changes}}}"
+    );
 }
 
 fn refused_json(source: &Source, bytes: &[u8], refusal: &Refusal, out: &mut Output) {
@@ -68,7 +79,11 @@ fn refused_json(source: &Source, bytes: &[u8], refusal: &Refusal, out: &mut Outp
     json::string(out, refusal.meaning());
     let _ = write!(out, ",\"place\":{place}");
     if let Some(event) = Event::of(bytes, refusal) {
-        let _ = write!(out, ",\"event\":{},\"event_type\":{}", event.place, event.kind);
+        let _ = write!(
+            out,
+            ",\"event\":{},\"event_type\":{}",
+            event.place, event.kind
+        );
         if let Some(name) = name(event.kind) {
             let _ = write!(out, ",\"event_name\":\"{name}\"");
         }

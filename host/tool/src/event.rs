@@ -12,7 +12,10 @@ pub struct Event {
 
 impl Event {
     fn at(log: &[u8], place: usize) -> Option<Event> {
-        Some(Event { place, kind: *log.get(place.checked_add(4)?)? })
+        Some(Event {
+            place,
+            kind: *log.get(place.checked_add(4)?)?,
+        })
     }
 
     /// The event that a refusal is about, if it is about one that is there.
@@ -53,6 +56,7 @@ fn spoken_with_a_vowel(name: &str) -> bool {
 
 /// The name of an event type, in MySQL or MariaDB.
 pub fn name(kind: u8) -> Option<&'static str> {
+    #[rustfmt::skip]
     const FIRST: [&str; 43] = [
         "UNKNOWN", "START_V3", "QUERY", "STOP", "ROTATE", "INTVAR", "LOAD", "SLAVE",
         "CREATE_FILE", "APPEND_BLOCK", "EXEC_LOAD", "DELETE_FILE", "NEW_LOAD", "RAND", "USER_VAR",
@@ -63,6 +67,7 @@ pub fn name(kind: u8) -> Option<&'static str> {
         "TRANSACTION_CONTEXT", "VIEW_CHANGE", "XA_PREPARE", "PARTIAL_UPDATE_ROWS",
         "TRANSACTION_PAYLOAD", "HEARTBEAT_V2", "GTID_TAGGED",
     ];
+    #[rustfmt::skip]
     const MARIADB: [&str; 12] = [
         "ANNOTATE_ROWS", "BINLOG_CHECKPOINT", "MARIADB_GTID", "MARIADB_GTID_LIST",
         "START_ENCRYPTION", "QUERY_COMPRESSED", "WRITE_ROWS_COMPRESSED_V1",

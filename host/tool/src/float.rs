@@ -75,7 +75,11 @@ fn quick(n: f64, digits: u32) -> Option<Decimal> {
         fraction += 1;
     }
     let carry = u64::from(fraction == power);
-    Some(Decimal::of(whole + carry, if carry == 1 { 0 } else { fraction }, after))
+    Some(Decimal::of(
+        whole + carry,
+        if carry == 1 { 0 } else { fraction },
+        after,
+    ))
 }
 
 impl Decimal {
@@ -85,7 +89,12 @@ impl Decimal {
         let before = whole.ilog10() as usize + 1;
         put(&mut signs, 0, before, whole);
         put(&mut signs, before, after as usize, fraction);
-        Decimal { signs, length: before + after as usize, exponent: before as i32 - 1 }.trimmed()
+        Decimal {
+            signs,
+            length: before + after as usize,
+            exponent: before as i32 - 1,
+        }
+        .trimmed()
     }
 
     fn trimmed(mut self) -> Decimal {
@@ -126,19 +135,33 @@ impl Write for Text {
 
 /// The digits of any number above 0, by the standard library's exact ones.
 fn slow(n: f64, digits: u32) -> Decimal {
-    let mut text = Text { signs: [0; 48], length: 0 };
+    let mut text = Text {
+        signs: [0; 48],
+        length: 0,
+    };
     // "d.ddde-ddd" has room
     let _ = write!(text, "{n:.*e}", digits.saturating_sub(1) as usize);
     let text = text.signs.get(..text.length).unwrap_or_default();
-    let mut decimal = Decimal { signs: [b'0'; 48], length: 0, exponent: 0 };
+    let mut decimal = Decimal {
+        signs: [b'0'; 48],
+        length: 0,
+        exponent: 0,
+    };
     let mut halves = text.split(|sign| *sign == b'e');
-    for digit in halves.next().unwrap_or_default().iter().filter(|sign| **sign != b'.') {
+    for digit in halves
+        .next()
+        .unwrap_or_default()
+        .iter()
+        .filter(|sign| **sign != b'.')
+    {
         if let Some(sign) = decimal.signs.get_mut(decimal.length) {
             *sign = *digit;
             decimal.length += 1;
         }
     }
-    let exponent = halves.next().and_then(|half| std::str::from_utf8(half).ok()?.parse().ok());
+    let exponent = halves
+        .next()
+        .and_then(|half| std::str::from_utf8(half).ok()?.parse().ok());
     decimal.exponent = exponent.unwrap_or_default();
     decimal.trimmed()
 }

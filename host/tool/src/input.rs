@@ -39,7 +39,9 @@ fn whole(from: impl Read, size: u64) -> io::Result<Vec<u8>> {
     let mut bytes = Vec::new();
     // one more, so that the end is seen with no growth
     let room = usize::try_from(size.min(LONGEST)).unwrap_or(0) + 1;
-    bytes.try_reserve_exact(room).map_err(|_| io::ErrorKind::OutOfMemory)?;
+    bytes
+        .try_reserve_exact(room)
+        .map_err(|_| io::ErrorKind::OutOfMemory)?;
     from.take(LONGEST + 1).read_to_end(&mut bytes)?;
     Ok(bytes)
 }

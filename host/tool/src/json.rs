@@ -25,7 +25,12 @@ pub fn change(k: usize, change: &Change<'_>, table: &Table<'_>, out: &mut Output
     out.unsigned(entry.map() as u64);
     out.signs(b",\"table_id\":");
     out.unsigned(change.table_id());
-    bytes(table.database, b",\"database\":", b",\"database_hex\":\"", out);
+    bytes(
+        table.database,
+        b",\"database\":",
+        b",\"database_hex\":\"",
+        out,
+    );
     bytes(table.name, b",\"table\":", b",\"table_hex\":\"", out);
     out.signs(b",\"columns\":");
     out.unsigned(change.columns() as u64);
@@ -46,7 +51,11 @@ fn image(key: &[u8], image: Image<'_, '_>, out: &mut Output) {
         if cell == Cell::Absent {
             continue;
         }
-        out.bytes(if first { b"{\"column\":" } else { b",{\"column\":" });
+        out.bytes(if first {
+            b"{\"column\":"
+        } else {
+            b",{\"column\":"
+        });
         first = false;
         out.unsigned(column as u64 + 1);
         if let Cell::Stored(kind, value) = cell {

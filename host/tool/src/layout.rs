@@ -5,7 +5,12 @@
 /// A little-endian number of up to 8 bytes.
 pub fn number(log: &[u8], place: usize, size: usize) -> Option<u64> {
     let bytes = log.get(place..place.checked_add(size)?)?;
-    Some(bytes.iter().rev().fold(0, |n, byte| n << 8 | u64::from(*byte)))
+    Some(
+        bytes
+            .iter()
+            .rev()
+            .fold(0, |n, byte| n << 8 | u64::from(*byte)),
+    )
 }
 
 /// The place after an event's header and post-header (01, Framing): the
@@ -74,7 +79,10 @@ pub fn partition(log: &[u8], event: usize, kind: u8) -> Option<Partition> {
         rest = rest.get(1 + usize::from(length).max(1)..)?;
     }
     match (*rest.first()?, kind) {
-        (1, 31) => Some(Partition::Move { target: number(rest, 1, 2)?, source: number(rest, 3, 2)? }),
+        (1, 31) => Some(Partition::Move {
+            target: number(rest, 1, 2)?,
+            source: number(rest, 3, 2)?,
+        }),
         (1, _) => Some(Partition::One(number(rest, 1, 2)?)),
         _ => None,
     }

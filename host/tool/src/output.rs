@@ -61,10 +61,10 @@ pub fn pair(n: u32) -> [u8; 2] {
 /// lowest: halves, then quarters, then digits, all of them at once.
 #[inline]
 fn eight(n: u64) -> u64 {
-    let halves = n / 10_000 | (n % 10_000) << 32;
-    let hundreds = (halves * 10_486 >> 20) & 0x0000_007f_0000_007f;
+    let halves = (n / 10_000) | ((n % 10_000) << 32);
+    let hundreds = ((halves * 10_486) >> 20) & 0x0000_007f_0000_007f;
     let quarters = hundreds | (halves - 100 * hundreds) << 16;
-    let tens = (quarters * 103 >> 10) & 0x000f_000f_000f_000f;
+    let tens = ((quarters * 103) >> 10) & 0x000f_000f_000f_000f;
     tens | (quarters - 10 * tens) << 8
 }
 
@@ -73,12 +73,22 @@ const E8: u64 = 100_000_000;
 
 impl Output {
     pub fn standard() -> Output {
-        Output { buffer: fresh(), at: 0, sink: Sink::Standard(io::stdout()), lost: None }
+        Output {
+            buffer: fresh(),
+            at: 0,
+            sink: Sink::Standard(io::stdout()),
+            lost: None,
+        }
     }
 
     /// Output for another thread to print.
     pub fn to(pieces: SyncSender<Piece>, buffers: Receiver<Buffer>) -> Output {
-        Output { buffer: fresh(), at: 0, sink: Sink::Thread(pieces, buffers), lost: None }
+        Output {
+            buffer: fresh(),
+            at: 0,
+            sink: Sink::Thread(pieces, buffers),
+            lost: None,
+        }
     }
 
     /// Signs of which the first `used` count. Copying all of them is quicker.
@@ -183,7 +193,10 @@ impl Output {
     pub fn hex(&mut self, bytes: &[u8]) {
         const DIGITS: &[u8; 16] = b"0123456789abcdef";
         for byte in bytes {
-            self.signs(&[DIGITS[usize::from(byte >> 4)], DIGITS[usize::from(byte & 15)]]);
+            self.signs(&[
+                DIGITS[usize::from(byte >> 4)],
+                DIGITS[usize::from(byte & 15)],
+            ]);
         }
     }
 
@@ -206,7 +219,11 @@ impl Output {
             Sink::Thread(pieces, buffers) => {
                 let empty = buffers.try_recv().unwrap_or_else(|_| fresh());
                 let buffer = std::mem::replace(&mut self.buffer, empty);
-                let sent = pieces.send(Piece { buffer, filled, is_last });
+                let sent = pieces.send(Piece {
+                    buffer,
+                    filled,
+                    is_last,
+                });
                 sent.err().map(|_| io::ErrorKind::BrokenPipe.into())
             }
         };

@@ -26,7 +26,13 @@ where
     let processors = thread::available_parallelism().map_or(1, |count| count.get());
     let workers = processors.min(spans.len());
     thread::scope(|scope| {
-        let start = |first| spawn(scope, spans.iter().skip(first).step_by(workers).cloned(), work);
+        let start = |first| {
+            spawn(
+                scope,
+                spans.iter().skip(first).step_by(workers).cloned(),
+                work,
+            )
+        };
         let queues = match workers {
             0 | 1 => Err(io::ErrorKind::Unsupported.into()),
             _ => (0..workers).map(start).collect::<io::Result<Vec<Queue>>>(),

@@ -47,7 +47,10 @@ impl Progress {
                 say("");
             }
         });
-        Progress { state, line: thread.ok().map(|thread| (end, thread)) }
+        Progress {
+            state,
+            line: thread.ok().map(|thread| (end, thread)),
+        }
     }
 
     pub fn has_read(&self, bytes: usize) {

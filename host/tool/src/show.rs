@@ -37,7 +37,13 @@ pub struct Column {
 
 impl<'a> Table<'a> {
     fn none() -> Table<'a> {
-        Table { map: 0, database: &[], name: &[], columns: Vec::new(), digits: Vec::new() }
+        Table {
+            map: 0,
+            database: &[],
+            name: &[],
+            columns: Vec::new(),
+            digits: Vec::new(),
+        }
     }
 
     /// Makes this the table of the change.
@@ -113,7 +119,10 @@ fn some(
     as_json: bool,
     out: &mut Output,
 ) -> io::Result<()> {
-    let before = span.start.checked_sub(1).and_then(|last| listing.entry(last));
+    let before = span
+        .start
+        .checked_sub(1)
+        .and_then(|last| listing.entry(last));
     let mut event = before.map_or(0, |entry| entry.event());
     let mut table = Table::none();
     for (k, change) in span.clone().zip(Log::new(bytes).changes_in(listing, span)) {
@@ -136,7 +145,9 @@ fn some(
 fn partition(bytes: &[u8], change: &Change<'_>, out: &mut Output) {
     let entry = change.entry();
     let kind = entry.event_type() as u8;
-    let Some(partition) = layout::partition(bytes, entry.event(), kind) else { return };
+    let Some(partition) = layout::partition(bytes, entry.event(), kind) else {
+        return;
+    };
     out.signs(b"### Extra row info for partitioning: ");
     match partition {
         Partition::One(number) => {

@@ -13,12 +13,16 @@ use std::process::Stdio;
 
 /// The numbers of `refused N at P` or `accepted E C`.
 fn numbers(line: &str) -> Vec<usize> {
-    line.split(' ').filter_map(|word| word.parse().ok()).collect()
+    line.split(' ')
+        .filter_map(|word| word.parse().ok())
+        .collect()
 }
 
 /// Whether a line of `check` says what the account says.
 fn says(line: &str, name: &str, account: &str) -> bool {
-    let [a, b] = numbers(account)[..] else { return false };
+    let [a, b] = numbers(account)[..] else {
+        return false;
+    };
     match account.split(' ').next() {
         Some("accepted") => line == format!("{name}: accepted, {a} events, {b} changes"),
         _ => {
@@ -40,7 +44,11 @@ fn check_says_of_each_log_what_the_account_says() {
     assert_eq!(checked.lines().count(), judged().count());
     for (line, (name, account)) in checked.lines().zip(judged()) {
         let path = evidence::path(name);
-        assert!(says(line, &path.to_string_lossy(), &account[0]), "{line}\n{}", account[0]);
+        assert!(
+            says(line, &path.to_string_lossy(), &account[0]),
+            "{line}\n{}",
+            account[0]
+        );
         let one = run(["check".as_ref(), path.as_os_str()]);
         let expected = i32::from(account[0].starts_with("refused"));
         assert_eq!(one.status.code(), Some(expected), "{name}");
@@ -54,7 +62,11 @@ fn list_prints_the_accounts_listing() {
         let listed = run(["list".as_ref(), evidence::path(&name).as_os_str()]);
         let expected: Vec<&String> = account.iter().filter(is_listed).collect();
         if account[0].starts_with("accepted") {
-            assert_eq!(text(&listed.stdout).lines().collect::<Vec<_>>(), expected, "{name}");
+            assert_eq!(
+                text(&listed.stdout).lines().collect::<Vec<_>>(),
+                expected,
+                "{name}"
+            );
             assert_eq!(listed.status.code(), Some(0), "{name}");
         } else if account[0].starts_with("refused") {
             assert!(listed.stdout.is_empty(), "{name}");
@@ -70,7 +82,10 @@ fn the_log_of_004() {
     let log = log_004();
     let path = log.to_string_lossy();
     let checked = run(["check", &path]);
-    assert_eq!(text(&checked.stdout), format!("{path}: accepted, 13 events, 2 changes\n"));
+    assert_eq!(
+        text(&checked.stdout),
+        format!("{path}: accepted, 13 events, 2 changes\n")
+    );
     // (01, Evidence at the desk)
     let listed = "31 389 331 421 427\n32 667 609 698 0\n";
     assert_eq!(text(&run(["list", &path]).stdout), listed);
@@ -85,7 +100,10 @@ fn the_log_of_004() {
 fn verdict(bytes: &[u8]) -> String {
     let checked = run_on(["check"], bytes);
     let line = text(&checked.stdout);
-    line.strip_prefix("-: ").and_then(|it| it.strip_suffix('\n')).unwrap_or(&line).to_string()
+    line.strip_prefix("-: ")
+        .and_then(|it| it.strip_suffix('\n'))
+        .unwrap_or(&line)
+        .to_string()
 }
 
 /// A byte of the log of 004, another value there.
@@ -98,18 +116,36 @@ fn changed(place: usize, value: u8) -> Vec<u8> {
 #[test]
 fn a_refusal_names_its_event() {
     let cases: [(Vec<u8>, &str); 6] = [
-        (changed(430, 0xee), "refused 8 (checksum wrong) at 389 (0x185), in an UPDATE_ROWS event"),
+        (
+            changed(430, 0xee),
+            "refused 8 (checksum wrong) at 389 (0x185), in an UPDATE_ROWS event",
+        ),
         // a length's lowest byte
-        (changed(331 + 9, 0xee), "refused 9 (next position isn't event place plus length) \
-            at 331 (0x14b), in a TABLE_MAP event"),
-        (changed(4 + 4, 2), "refused 3 (nothing follows the first four bytes, or the first event \
-            isn't a description) at 4 (0x4), in a QUERY event"),
-        (changed(389 + 4, 15), "refused 10 (a second description) at 389 (0x185), \
-            in a FORMAT_DESCRIPTION event"),
-        (changed(0, 0)[..400].to_vec(), "refused 2 (not a binlog: the first four bytes aren't \
-            fe 62 69 6e, or are missing) at 0 (0x0)"),
-        (changed(0, 0xfe)[..391].to_vec(), "refused 4 (event cut short by the log's end) \
-            at 389 (0x185)"),
+        (
+            changed(331 + 9, 0xee),
+            "refused 9 (next position isn't event place plus length) \
+            at 331 (0x14b), in a TABLE_MAP event",
+        ),
+        (
+            changed(4 + 4, 2),
+            "refused 3 (nothing follows the first four bytes, or the first event \
+            isn't a description) at 4 (0x4), in a QUERY event",
+        ),
+        (
+            changed(389 + 4, 15),
+            "refused 10 (a second description) at 389 (0x185), \
+            in a FORMAT_DESCRIPTION event",
+        ),
+        (
+            changed(0, 0)[..400].to_vec(),
+            "refused 2 (not a binlog: the first four bytes aren't \
+            fe 62 69 6e, or are missing) at 0 (0x0)",
+        ),
+        (
+            changed(0, 0xfe)[..391].to_vec(),
+            "refused 4 (event cut short by the log's end) \
+            at 389 (0x185)",
+        ),
     ];
     for (bytes, expected) in cases {
         assert_eq!(verdict(&bytes), expected);
@@ -121,10 +157,14 @@ fn a_refusal_names_its_event() {
 fn a_refused_value_names_the_event_around_it() {
     let mut seen = 0;
     for (name, account) in evidence::sections() {
-        let [18, place] = numbers(&account[0])[..] else { continue };
+        let [18, place] = numbers(&account[0])[..] else {
+            continue;
+        };
         let bytes = evidence::read(&name);
         let said = verdict(&bytes);
-        let (_, event) = said.rsplit_once(" event at ").unwrap_or_else(|| panic!("{name}: {said}"));
+        let (_, event) = said
+            .rsplit_once(" event at ")
+            .unwrap_or_else(|| panic!("{name}: {said}"));
         let event: usize = event.parse().expect("a place");
         let end = event + length_at(&bytes, event);
         assert!((event..end).contains(&place), "{name}: {said}");
@@ -150,7 +190,11 @@ fn the_worst_status_counts() {
 
 #[test]
 fn what_can_not_be_read_is_told() {
-    for (command, path) in [("check", "/no/such/file"), ("list", "/no/such/file"), ("show", "/")] {
+    for (command, path) in [
+        ("check", "/no/such/file"),
+        ("list", "/no/such/file"),
+        ("show", "/"),
+    ] {
         let output = run([command, path]);
         assert_eq!(output.status.code(), Some(2));
         assert!(output.stdout.is_empty());
@@ -172,7 +216,12 @@ fn an_empty_input_is_refused() {
 #[test]
 fn wrong_use_is_told() {
     let wrong: [&[&str]; 6] = [
-        &[], &["frobnicate"], &["check", "--loud"], &["list", "a", "b"], &["show", "a", "-"], &["-"],
+        &[],
+        &["frobnicate"],
+        &["check", "--loud"],
+        &["list", "a", "b"],
+        &["show", "a", "-"],
+        &["-"],
     ];
     for words in wrong {
         let output = run(words);
@@ -190,15 +239,26 @@ fn help_and_version() {
         assert!(text(&help.stdout).contains(word), "{word}");
     }
     let version = text(&run(["--version"]).stdout);
-    assert_eq!(version, format!("tegmeadow {}\n", env!("CARGO_PKG_VERSION")));
+    assert_eq!(
+        version,
+        format!("tegmeadow {}\n", env!("CARGO_PKG_VERSION"))
+    );
 }
 
 #[test]
 fn a_file_named_like_an_option() {
     let folder = Path::new(env!("CARGO_TARGET_TMPDIR"));
     std::fs::copy(log_004(), folder.join("--json")).expect("a copy");
-    let output = program().args(["list", "--", "--json"]).current_dir(folder).output();
-    assert_eq!(text(&output.expect("the program runs").stdout).lines().count(), 2);
+    let output = program()
+        .args(["list", "--", "--json"])
+        .current_dir(folder)
+        .output();
+    assert_eq!(
+        text(&output.expect("the program runs").stdout)
+            .lines()
+            .count(),
+        2
+    );
 }
 
 /// A reader that goes away ends the program quietly.
@@ -219,14 +279,24 @@ fn a_broken_pipe_ends_quietly() {
         output.read_exact(&mut [0; 1]).expect("a byte");
         drop(output);
         let ended = child.wait_with_output().expect("it ends");
-        assert_eq!((ended.status.code(), text(&ended.stderr)), (Some(0), String::new()));
+        assert_eq!(
+            (ended.status.code(), text(&ended.stderr)),
+            (Some(0), String::new())
+        );
     }
 }
 
 #[test]
 fn a_full_disk_is_told() {
-    let Ok(full) = File::options().write(true).open("/dev/full") else { return };
-    let output = program().arg("show").arg(log_004()).stdout(full).output().expect("it runs");
+    let Ok(full) = File::options().write(true).open("/dev/full") else {
+        return;
+    };
+    let output = program()
+        .arg("show")
+        .arg(log_004())
+        .stdout(full)
+        .output()
+        .expect("it runs");
     assert_eq!(output.status.code(), Some(2));
     assert!(text(&output.stderr).starts_with("tegmeadow: standard output: "));
 }

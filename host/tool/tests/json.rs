@@ -1,17 +1,20 @@
 //! The lines of `--json` are JSON, and say what the other forms say.
 
 mod common;
-#[path = "common/json.rs"]
-mod parsed;
 #[path = "../../tegmeadow/tests/evidence/mod.rs"]
 mod evidence;
+#[path = "common/json.rs"]
+mod parsed;
 
 use common::{file, log_004, run, text};
 use parsed::{parse, Json};
 use std::path::Path;
 
 fn objects(words: &[&str], path: &Path) -> Vec<Json> {
-    let output = run(words.iter().map(|word| word.as_ref()).chain([path.as_os_str()]));
+    let output = run(words
+        .iter()
+        .map(|word| word.as_ref())
+        .chain([path.as_os_str()]));
     let text = String::from_utf8(output.stdout).expect("UTF-8");
     let one = |line: &str| parse(line).unwrap_or_else(|| panic!("{}: {line}", path.display()));
     text.lines().map(one).collect()
@@ -20,7 +23,9 @@ fn objects(words: &[&str], path: &Path) -> Vec<Json> {
 #[test]
 fn each_line_is_an_object_of_its_own() {
     let extremes = file("host/tool/tests/data/extremes.binlog");
-    let logs = evidence::sections().into_iter().map(|(name, _)| evidence::path(&name));
+    let logs = evidence::sections()
+        .into_iter()
+        .map(|(name, _)| evidence::path(&name));
     let mut seen = 0;
     for path in logs.chain([extremes]) {
         let [checked] = &objects(&["check", "--json"], &path)[..] else {
@@ -29,7 +34,12 @@ fn each_line_is_an_object_of_its_own() {
         let changes = checked.number("changes").unwrap_or(0.0) as usize;
         let listed = objects(&["list", "--json"], &path);
         let shown = objects(&["show", "--json"], &path);
-        assert_eq!((listed.len(), shown.len()), (changes, changes), "{}", path.display());
+        assert_eq!(
+            (listed.len(), shown.len()),
+            (changes, changes),
+            "{}",
+            path.display()
+        );
         for (k, (listed, shown)) in listed.iter().zip(&shown).enumerate() {
             for key in ["change", "event", "map"] {
                 assert_eq!(listed.get(key), shown.get(key));
@@ -54,13 +64,17 @@ fn the_log_of_004() {
         {\"column\":3,\"type\":\"VARCHAR\",\"value\":\"test\"}]}";
     assert_eq!(shown.lines().next(), Some(update));
     let listed = text(&run(["list", "--json", &path]).stdout);
-    let delete = "{\"change\":1,\"type\":32,\"event\":667,\"map\":609,\"before\":698,\"after\":null}";
+    let delete =
+        "{\"change\":1,\"type\":32,\"event\":667,\"map\":609,\"before\":698,\"after\":null}";
     assert_eq!(listed.lines().nth(1), Some(delete));
 }
 
 /// Each column that the image has, in order, of all changes of a table.
 fn cells(table: &str, column: usize) -> Vec<Json> {
-    let shown = objects(&["show", "--json"], &file("host/tool/tests/data/extremes.binlog"));
+    let shown = objects(
+        &["show", "--json"],
+        &file("host/tool/tests/data/extremes.binlog"),
+    );
     let of_table = shown
         .into_iter()
         .filter(|change| change.get("table") == Some(&Json::String(table.to_string())));
@@ -96,7 +110,10 @@ fn floats_come_back_bit_for_bit() {
     assert_eq!(found[4].number("bits"), Some(f64::from(0x7f80_0000_u32)));
     assert_eq!(found[8].number("bits"), Some(f64::from(0x7f80_0001_u32)));
     let doubles = cells("f", 1);
-    assert_eq!(doubles[1].get("value"), Some(&Json::Number("5e-324".into())));
+    assert_eq!(
+        doubles[1].get("value"),
+        Some(&Json::Number("5e-324".into()))
+    );
     assert_eq!(doubles[2].get("value"), Some(&Json::Number("-0.0".into())));
     let bits = format!("{}", 0x7ff_u64 << 52 | 1);
     assert_eq!(doubles[7].get("bits"), Some(&Json::Number(bits)));
@@ -104,12 +121,29 @@ fn floats_come_back_bit_for_bit() {
 
 #[test]
 fn the_test_reader_of_json_is_strict() {
-    for sound in ["{}", "[1,-0.5e+3,\"\\u0041\"]", "{\"a\":null,\"b\":[true,false]}"] {
+    for sound in [
+        "{}",
+        "[1,-0.5e+3,\"\\u0041\"]",
+        "{\"a\":null,\"b\":[true,false]}",
+    ] {
         assert!(parse(sound).is_some(), "{sound}");
     }
     let faulty = [
-        "", "{", "{}x", "{\"a\":1,\"a\":2}", "[1,]", "01", "1.", ".5", "nan", "\"\u{1}\"", "\"\\x\"",
-        "{a:1}", "inf", "-", "+1",
+        "",
+        "{",
+        "{}x",
+        "{\"a\":1,\"a\":2}",
+        "[1,]",
+        "01",
+        "1.",
+        ".5",
+        "nan",
+        "\"\u{1}\"",
+        "\"\\x\"",
+        "{a:1}",
+        "inf",
+        "-",
+        "+1",
     ];
     for faulty in faulty {
         assert_eq!(parse(faulty), None, "{faulty}");

@@ -37,8 +37,14 @@ fn is_type_comment(comment: &[u8]) -> bool {
 /// digits, `:` of 10 and so on. No server writes such a year. Applied to what
 /// `show` prints.
 fn with_one_sign_for_two_digits(line: Vec<u8>) -> Vec<u8> {
-    let shape: Vec<u8> = line.iter().map(|b| if b.is_ascii_digit() { b'9' } else { *b }).collect();
-    match shape.windows(13).position(|window| window == b"'99999:99:99'") {
+    let shape: Vec<u8> = line
+        .iter()
+        .map(|b| if b.is_ascii_digit() { b'9' } else { *b })
+        .collect();
+    match shape
+        .windows(13)
+        .position(|window| window == b"'99999:99:99'")
+    {
         Some(quote) => {
             let thousands = (line[quote + 1] - b'0') * 10 + (line[quote + 2] - b'0');
             let (before, after) = (&line[..=quote], &line[quote + 3..]);
@@ -68,32 +74,53 @@ const REFUSED: [(&str, u32); 13] = [
 /// The `###` lines of a text, which may be compressed.
 fn pseudo_sql(path: &Path) -> Vec<Vec<u8>> {
     let bytes = match path.extension().is_some_and(|it| it == "gz") {
-        true => Command::new("gzip").arg("-dc").arg(path).output().expect("gzip runs").stdout,
+        true => {
+            Command::new("gzip")
+                .arg("-dc")
+                .arg(path)
+                .output()
+                .expect("gzip runs")
+                .stdout
+        }
         false => std::fs::read(path).expect("the text"),
     };
     assert!(!bytes.is_empty(), "{}", path.display());
-    let lines = bytes.split(|byte| *byte == b'\n').filter(|line| line.starts_with(b"###"));
+    let lines = bytes
+        .split(|byte| *byte == b'\n')
+        .filter(|line| line.starts_with(b"###"));
     lines.map(|line| line.to_vec()).collect()
 }
 
 /// The folders that the real logs stand in.
 fn real_folders() -> [PathBuf; 2] {
-    [file("host/compare/data/real"), file("crates/evidence/data/real")]
+    [
+        file("host/compare/data/real"),
+        file("crates/evidence/data/real"),
+    ]
 }
 
 /// A real log by its name.
 fn real_log(name: &str) -> Vec<u8> {
-    let path = real_folders().map(|folder| folder.join(name)).into_iter().find(|it| it.is_file());
+    let path = real_folders()
+        .map(|folder| folder.join(name))
+        .into_iter()
+        .find(|it| it.is_file());
     std::fs::read(path.unwrap_or_else(|| panic!("no {name}"))).expect("the log")
 }
 
 /// What mysqlbinlog printed of a log, if it is kept.
 fn text_of(log: &str) -> Option<Vec<Vec<u8>>> {
-    let plain = file(&format!("host/compare/data/mysqlbinlog/{log}.mysqlbinlog.txt"));
+    let plain = file(&format!(
+        "host/compare/data/mysqlbinlog/{log}.mysqlbinlog.txt"
+    ));
     let packed = plain.with_extension("txt.gz");
     let path = [plain, packed].into_iter().find(|path| path.is_file())?;
     let lines = pseudo_sql(&path).into_iter();
-    Some(lines.map(|line| without_type_comment(&line).to_vec()).collect())
+    Some(
+        lines
+            .map(|line| without_type_comment(&line).to_vec())
+            .collect(),
+    )
 }
 
 fn real_logs() -> Vec<PathBuf> {
@@ -103,14 +130,19 @@ fn real_logs() -> Vec<PathBuf> {
     };
     let paths = real_folders().into_iter().flat_map(entries);
     let paths = paths.map(|entry| entry.expect("an entry").path());
-    paths.filter(|path| path.extension().is_some_and(|it| it == "binlog")).collect()
+    paths
+        .filter(|path| path.extension().is_some_and(|it| it == "binlog"))
+        .collect()
 }
 
 fn lines(bytes: &[u8]) -> Vec<Vec<u8>> {
     let bytes = bytes.strip_suffix(b"\n").unwrap_or(bytes);
     match bytes.is_empty() {
         true => Vec::new(),
-        false => bytes.split(|byte| *byte == b'\n').map(|line| line.to_vec()).collect(),
+        false => bytes
+            .split(|byte| *byte == b'\n')
+            .map(|line| line.to_vec())
+            .collect(),
     }
 }
 
@@ -126,10 +158,19 @@ fn hold(name: &str, shown: &[Vec<u8>], expected: &[Vec<u8>]) {
 fn show_agrees_on_the_real_logs_that_are_accepted() {
     let mut compared = 0;
     for path in real_logs() {
-        let name = path.file_name().expect("a name").to_string_lossy().into_owned();
+        let name = path
+            .file_name()
+            .expect("a name")
+            .to_string_lossy()
+            .into_owned();
         let shown = run(["show".as_ref(), path.as_os_str()]);
         if shown.status.code() != Some(0) {
-            assert!(REFUSED.iter().any(|(refused, _)| format!("{refused}.binlog") == name), "{name}");
+            assert!(
+                REFUSED
+                    .iter()
+                    .any(|(refused, _)| format!("{refused}.binlog") == name),
+                "{name}"
+            );
             continue;
         }
         let expected = text_of(&name).unwrap_or_else(|| panic!("no text of {name}"));
@@ -154,7 +195,11 @@ fn show_agrees_on_what_stands_before_a_refused_event() {
         let start = format!("-: refused {number} (");
         assert!(refused.starts_with(&start), "{name}: {refused}");
         let (_, place) = refused.split_once(") at ").expect("a place");
-        let place: usize = place.split(' ').next().and_then(|it| it.parse().ok()).expect("a number");
+        let place: usize = place
+            .split(' ')
+            .next()
+            .and_then(|it| it.parse().ok())
+            .expect("a number");
         if place <= 4 {
             continue;
         }
@@ -176,8 +221,10 @@ fn show_agrees_on_extreme_values() {
     let log = file("host/tool/tests/data/extremes.binlog");
     let expected = pseudo_sql(&file("host/tool/tests/data/extremes.txt.gz"));
     let shown = run(["show".as_ref(), log.as_os_str()]);
-    let shown: Vec<_> =
-        lines(&shown.stdout).into_iter().map(with_one_sign_for_two_digits).collect();
+    let shown: Vec<_> = lines(&shown.stdout)
+        .into_iter()
+        .map(with_one_sign_for_two_digits)
+        .collect();
     hold("extremes", &shown, &expected);
     assert_eq!(shown.len(), expected.len());
 }
@@ -191,7 +238,10 @@ fn a_long_log_is_shown_in_order() {
     let once = run_on(["show", "--json"], &repeated(&extremes(), 40)).stdout;
     let number = |line: &[u8]| {
         let line = text(line);
-        line.trim_start_matches("{\"change\":").split(',').next().map(str::to_string)
+        line.trim_start_matches("{\"change\":")
+            .split(',')
+            .next()
+            .map(str::to_string)
     };
     for (k, line) in lines(&once).iter().enumerate() {
         assert_eq!(number(line), Some(k.to_string()));
@@ -204,15 +254,26 @@ fn a_long_log_is_shown_in_order() {
 fn a_partition_is_said_once_an_event() {
     let log = real_log("mysql-part-crc32.binlog");
     let listed = text(&run_on(["list"], &log).stdout);
-    let numbers = listed.split_whitespace().map(|it| it.parse().expect("a number"));
+    let numbers = listed
+        .split_whitespace()
+        .map(|it| it.parse().expect("a number"));
     let numbers: Vec<usize> = numbers.take(5).collect();
-    let [30, event, _, 0, image] = numbers[..] else { panic!("{listed}") };
+    let [30, event, _, 0, image] = numbers[..] else {
+        panic!("{listed}")
+    };
     let rows = &log[image..event + length_at(&log, event) - 4];
     let mut long = log[..event].to_vec();
-    append(&mut long, [&log[event..image], &rows.repeat(50_000)].concat());
+    append(
+        &mut long,
+        [&log[event..image], &rows.repeat(50_000)].concat(),
+    );
     let shown = lines(&run_on(["show"], &long).stdout);
-    let said = shown.iter().filter(|line| line.starts_with(b"### Extra row info"));
-    let changes = shown.iter().filter(|line| line.starts_with(b"### INSERT INTO"));
+    let said = shown
+        .iter()
+        .filter(|line| line.starts_with(b"### Extra row info"));
+    let changes = shown
+        .iter()
+        .filter(|line| line.starts_with(b"### INSERT INTO"));
     assert_eq!((said.count(), changes.count()), (1, 100_000));
 }
 
@@ -220,7 +281,11 @@ fn a_partition_is_said_once_an_event() {
 fn a_normalisation_takes_no_more_than_it_names() {
     let line = b"###   @2=-1 (255) /* TINYINT meta=0 nullable=1 is_null=0 */";
     assert_eq!(without_type_comment(line), b"###   @2=-1 (255)");
-    for kept in [&b"###   @2='x /* y */'"[..], b"### INSERT INTO `a /* b */`", b"###   @2=1"] {
+    for kept in [
+        &b"###   @2='x /* y */'"[..],
+        b"### INSERT INTO `a /* b */`",
+        b"###   @2=1",
+    ] {
         assert_eq!(without_type_comment(kept), kept);
     }
     let year = |line: &[u8]| with_one_sign_for_two_digits(line.to_vec());

@@ -2,7 +2,7 @@
 
 use super::{ask, every_shape, rounds, WALKED, WALKED_BRIEFLY};
 use crate::ask::Asker;
-use logs::{changed_bytes, cuts, damage, touched, valid, Made, Rng, Shape};
+use logs::{changed_bytes, cuts, damage, repaired, touched, valid, Made, Rng, Shape};
 
 #[test]
 fn valid_logs() {
@@ -103,7 +103,7 @@ pub fn others(rng: &mut Rng, byte: u8) -> [u8; 4] {
 #[test]
 fn changed_logs() {
     let mut asker = Asker::new(WALKED_BRIEFLY);
-    for (seed, made) in small_logs(60) {
+    for (seed, made) in small_logs(30) {
         let mut rng = Rng::new(seed);
         let mut log = made.bytes.clone();
         for at in 0..log.len() {
@@ -118,6 +118,24 @@ fn changed_logs() {
                 }
             }
             log[at] = made.bytes[at];
+        }
+    }
+}
+
+/// As above, but the checksums follow: so every field is judged.
+#[test]
+fn repaired_logs() {
+    let mut asker = Asker::new(WALKED_BRIEFLY);
+    for (seed, made) in small_logs(30) {
+        let mut rng = Rng::new(seed);
+        for at in 0..made.bytes.len() {
+            for new in others(&mut rng, made.bytes[at]) {
+                let Some(log) = repaired(&made, at, new) else {
+                    continue;
+                };
+                let what = || format!("small {seed} repaired, with {new} at {at}");
+                let _ = ask(&mut asker, &what, &log, None);
+            }
         }
     }
 }

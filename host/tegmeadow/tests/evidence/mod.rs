@@ -24,7 +24,11 @@ pub fn sections() -> Vec<(String, Vec<String>)> {
     for line in text.lines() {
         match line.strip_prefix("== ") {
             Some(name) => sections.push((name.to_string(), Vec::new())),
-            None => sections.last_mut().expect("a section").1.push(line.to_string()),
+            None => sections
+                .last_mut()
+                .expect("a section")
+                .1
+                .push(line.to_string()),
         }
     }
     assert!(sections.len() > 400);

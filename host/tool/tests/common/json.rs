@@ -46,7 +46,7 @@ fn value(rest: &mut &str) -> Option<Json> {
         'f' => take(rest, "false").map(|()| Json::Bool(false)),
         '"' => string(rest).map(Json::String),
         '[' => items(rest, "[", "]", value).map(Json::Array),
-        '{' => items(rest, "{", "}", member).map(unlike).flatten(),
+        '{' => items(rest, "{", "}", member).and_then(unlike),
         _ => number(rest).map(Json::Number),
     }
 }

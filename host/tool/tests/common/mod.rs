@@ -13,7 +13,9 @@ pub fn program() -> Command {
 
 /// A file of the repository.
 pub fn file(path: &str) -> PathBuf {
-    Path::new(env!("CARGO_MANIFEST_DIR")).join("../..").join(path)
+    Path::new(env!("CARGO_MANIFEST_DIR"))
+        .join("../..")
+        .join(path)
 }
 
 /// The log of 004, whose changes the scope paper lists.
@@ -23,7 +25,11 @@ pub fn log_004() -> PathBuf {
 
 /// Runs the program; no run may panic, whatever it reads.
 pub fn run<S: AsRef<OsStr>>(words: impl IntoIterator<Item = S>) -> Output {
-    let output = program().args(words).stdin(Stdio::null()).output().expect("the program runs");
+    let output = program()
+        .args(words)
+        .stdin(Stdio::null())
+        .output()
+        .expect("the program runs");
     sound(output)
 }
 
@@ -49,7 +55,11 @@ pub fn run_on<S: AsRef<OsStr>>(words: impl IntoIterator<Item = S>, bytes: &[u8])
 fn sound(output: Output) -> Output {
     let said = String::from_utf8_lossy(&output.stderr);
     assert!(!said.contains("panicked"), "{said}");
-    assert!(matches!(output.status.code(), Some(0..=2)), "{:?}", output.status);
+    assert!(
+        matches!(output.status.code(), Some(0..=2)),
+        "{:?}",
+        output.status
+    );
     output
 }
 
@@ -94,6 +104,14 @@ pub fn append(log: &mut Vec<u8>, mut event: Vec<u8>) {
 }
 
 fn crc32(bytes: &[u8]) -> u32 {
-    let step = |crc: u32, _| if crc & 1 == 1 { crc >> 1 ^ 0xEDB8_8320 } else { crc >> 1 };
-    !bytes.iter().fold(!0, |crc, byte| (0..8).fold(crc ^ u32::from(*byte), step))
+    let step = |crc: u32, _| {
+        if crc & 1 == 1 {
+            crc >> 1 ^ 0xEDB8_8320
+        } else {
+            crc >> 1
+        }
+    };
+    !bytes
+        .iter()
+        .fold(!0, |crc, byte| (0..8).fold(crc ^ u32::from(*byte), step))
 }
