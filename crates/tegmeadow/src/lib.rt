@@ -3,6 +3,7 @@
 // the caller lends, and the number returned is 0, or the refusal's (01, Refusal numbers). Any bytes and any numbers may be handed in. A name or a
 // text is a place and a length in the log, 0 and 0 where there is none.
 ghost use mathlib.Core.Path.{_≡_};
+ghost use Prim.Native.Nat.{_/_};
 ghost use lib.ListN.{length as size};
 ghost use Rattle.format.specs.Walk.{judge};
 ghost use Rattle.format.specs.Answers as Answers;
@@ -12,6 +13,8 @@ ghost use Rattle.format.specs.AtEntry.{changeAt, databaseAt, tableAt, valueAt, 
 ghost use Rattle.format.specs.declared.Part.{Part};
 ghost use Rattle.walk.specs.State.{checkedAnswer};
 ghost use Rattle.entry.specs.Answer.{valuedAnswer};
+ghost use Rattle.entry.specs.Values.{listingCells};
+ghost use Rattle.cells.specs.Cells.{leading, after};
 ghost use Rattle.tegmeadow.specs.Answer.{checkedNumber, checkedPlace, checkedEvents, checkedChanges, counted, changedNumber, changedPlace, entryAfter, tableAfter, columnsAfter, valuedNumber, valuedPlace, cellAfter, entryIn};
 use entry::Change;
 use entry::Changed;
@@ -317,4 +320,15 @@ pub extern "C" fn tegmeadow_text_at(
         place,
         length,
     )
+}
+
+// The values of the changes of a listing, or of a part of one, as cells of eight numbers, one after another: for each change every column of its
+// before image, then of its after image, those that it has. It stops at the first that can't be read or finds no room; what is past the cells
+// stays as it was. The answer is how many cells are written.
+#[no_mangle]
+pub extern "C" fn tegmeadow_values(log: &[u8], listing: &[u32], cells: &mut [u64]) -> usize
+    ensures answer { λ r. ⌜ r ≡ size (leading (size (now (cells .entry)) / 8) (listingCells (now (log .entry)) (now (listing .entry)))) ⌝ }
+    ensures cells { λ _. ⌜ now (cells .exit) ≡ after 0 (leading (size (now (cells .entry)) / 8) (listingCells (now (log .entry)) (now (listing .entry)))) (now (cells .entry)) ⌝ }
+{
+    entry::values(log, listing, cells)
 }
