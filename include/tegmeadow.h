@@ -169,6 +169,20 @@ void tegmeadow_text_at(const uint8_t *log, size_t log_len,
                        const uint32_t entry[5], size_t side, size_t column,
                        size_t *place, size_t *length);
 
+/*
+ * The values of the changes of a listing, or of a part of one that starts at
+ * an entry, in one call: for each change a cell for every column of its
+ * before image, then for every column of its after image, of those that it
+ * has.  `listing_len` counts numbers, five an entry; `cells_len` counts
+ * numbers, eight a cell.  Stops at the first cell that can't be read, of
+ * which the listing of an accepted log has none, or that finds no room; what
+ * is past the cells stays as it was.  Answers how many cells are written.
+ * A table has at most 512 columns, so 1,024 cells take any change.
+ */
+size_t tegmeadow_values(const uint8_t *log, size_t log_len,
+                        const uint32_t *listing, size_t listing_len,
+                        uint64_t *cells, size_t cells_len);
+
 #ifdef __cplusplus
 }
 #endif
