@@ -169,6 +169,17 @@ void tegmeadow_text_at(const uint8_t *log, size_t log_len,
                        const uint32_t entry[5], size_t side, size_t column,
                        size_t *place, size_t *length);
 
+/*
+ * The cells of the changes of a listing, or of a part of one that starts at
+ * an entry, one after another: for each change the columns of its before
+ * image in order, then those of its after image; only images that it has.
+ * `listing_len` and `cells_len` count numbers.  Writes as many cells as can
+ * be read and fit and answers how many; what follows them stays as it was.
+ */
+size_t tegmeadow_values(const uint8_t *log, size_t log_len,
+                        const uint32_t *listing, size_t listing_len,
+                        uint64_t *cells, size_t cells_len);
+
 #ifdef __cplusplus
 }
 #endif

@@ -110,6 +110,14 @@ extern "C" {
         place: *mut usize,
         length: *mut usize,
     );
+    fn tegmeadow_values(
+        log: *const u8,
+        log_len: usize,
+        listing: *const u32,
+        listing_len: usize,
+        cells: *mut u64,
+        cells_len: usize,
+    ) -> usize;
 }
 
 /// What check and list answer.
@@ -288,27 +296,19 @@ pub fn text_at(log: &[u8], entry: &EntryNumbers, side: usize, column: usize) -> 
 
 /// The cells of the changes of a part of a listing, one after another; how many were written.
 pub fn values(log: &[u8], listing: &[u32], cells: &mut [CellNumbers]) -> usize {
-    let mut written = 0;
-    for numbers in listing.chunks_exact(5) {
-        let Some(entry) = numbers.first_chunk::<5>() else {
-            return written;
-        };
-        let Some(table) = change_at(log, entry) else {
-            return written;
-        };
-        for side in (0..2).filter(|side| numbers.get(3 + side) != Some(&0)) {
-            for column in 0..table.columns {
-                let Some(cell) = cells.get_mut(written) else {
-                    return written;
-                };
-                if !value_at(log, entry, side, column, cell) {
-                    return written;
-                }
-                written += 1;
-            }
-        }
+    let cells = cells.as_flattened_mut();
+    // SAFETY: three slices, each by its own pointer and length; `cells` is borrowed
+    // for writing, so it is apart from the others.
+    unsafe {
+        tegmeadow_values(
+            log.as_ptr(),
+            log.len(),
+            listing.as_ptr(),
+            listing.len(),
+            cells.as_mut_ptr(),
+            cells.len(),
+        )
     }
-    written
 }
 
 /// As many zeros on the heap, or none where there is no such memory. The pages
