@@ -170,14 +170,11 @@ void tegmeadow_text_at(const uint8_t *log, size_t log_len,
                        size_t *place, size_t *length);
 
 /*
- * The values of the changes of a listing, or of a part of one that starts at
- * an entry, in one call: for each change a cell for every column of its
- * before image, then for every column of its after image, of those that it
- * has.  `listing_len` counts numbers, five an entry; `cells_len` counts
- * numbers, eight a cell.  Stops at the first cell that can't be read, of
- * which the listing of an accepted log has none, or that finds no room; what
- * is past the cells stays as it was.  Answers how many cells are written.
- * A table has at most 512 columns, so 1,024 cells take any change.
+ * The cells of the changes of a listing, or of a part of one that starts at
+ * an entry, one after another: for each change the columns of its before
+ * image in order, then those of its after image; only images that it has.
+ * `listing_len` and `cells_len` count numbers.  Writes as many cells as can
+ * be read and fit and answers how many; what follows them stays as it was.
  */
 size_t tegmeadow_values(const uint8_t *log, size_t log_len,
                         const uint32_t *listing, size_t listing_len,

@@ -294,20 +294,19 @@ pub fn text_at(log: &[u8], entry: &EntryNumbers, side: usize, column: usize) -> 
     (place, length)
 }
 
-/// The cells of the changes of a part of a listing, one after another; how
-/// many were written. The others stay as they were.
+/// The cells of the changes of a part of a listing, one after another; how many were written.
 pub fn values(log: &[u8], listing: &[u32], cells: &mut [CellNumbers]) -> usize {
-    let numbers = cells.as_flattened_mut();
-    // SAFETY: the slices' own pointers and lengths; `cells` is borrowed for writing, so it is
-    // apart from the others.
+    let cells = cells.as_flattened_mut();
+    // SAFETY: three slices, each by its own pointer and length; `cells` is borrowed
+    // for writing, so it is apart from the others.
     unsafe {
         tegmeadow_values(
             log.as_ptr(),
             log.len(),
             listing.as_ptr(),
             listing.len(),
-            numbers.as_mut_ptr(),
-            numbers.len(),
+            cells.as_mut_ptr(),
+            cells.len(),
         )
     }
 }

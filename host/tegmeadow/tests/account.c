@@ -10,6 +10,7 @@
 #define FEW 32768
 #define MARK 0xa5a5a5a5u
 #define ROOM 4096
+#define CELLS 8192
 
 static uint8_t log_bytes[LONGEST + 1];
 static size_t log_len;
@@ -193,9 +194,48 @@ static int ask_change(size_t k)
     return number == 0;
 }
 
+/* The cells of a listing into room for so many: those asked for one by one,
+ * and what follows them as it was. */
+static int same_cells(const uint32_t *listing, size_t changes, size_t room)
+{
+    static uint64_t cells[8 * CELLS];
+    size_t written, at = 0, k, side, column;
+    uint64_t cell[8];
+
+    memset(cells, 0x5a, sizeof cells);
+    written = tegmeadow_values(log_bytes, log_len, listing, 5 * changes, cells, 8 * room + 7);
+    for (k = 0; k < changes; k++)
+        for (side = 0; side < 2; side++)
+            for (column = 0; listing[5 * k + 3 + side] && at < room; column++) {
+                if (tegmeadow_value_at(log_bytes, log_len, listing + 5 * k, side, column, cell))
+                    break;
+                if (memcmp(cell, cells + 8 * at, sizeof cell) != 0)
+                    return 0;
+                at++;
+            }
+    for (k = 8 * at; k < 8 * CELLS; k++)
+        if (cells[k] != 0x5a5a5a5a5a5a5a5au)
+            return 0;
+    return written == at;
+}
+
+static void ask_values(size_t changes)
+{
+    static uint32_t listing[5 * LONGEST];
+    static const size_t rooms[] = {0, 1, 7, 512, CELLS - 1};
+    size_t place, events, i;
+
+    tegmeadow_list(log_bytes, log_len, listing, 5 * LONGEST, &place, &events, &changes);
+    for (i = 0; i < sizeof rooms / sizeof *rooms; i++)
+        if (!same_cells(listing, changes, rooms[i]))
+            printf("other cells in room for %lu\n", (unsigned long)rooms[i]);
+}
+
 static void ask_all(size_t changes)
 {
     size_t k;
+
+    ask_values(changes);
 
     if (0 < changes)
         ask_list(5 * changes - 1);
