@@ -16,29 +16,29 @@ pub struct Shape {
     pub columns: Vec<Column>,
 }
 
-const DIRECTORY: [Column; 4] = [(8, &[]), (15, &[32, 0]), (15, &[255, 0]), (17, &[0])];
+const NARROW: [Column; 4] = [(8, &[]), (15, &[32, 0]), (15, &[255, 0]), (17, &[0])];
 const TEXT: [Column; 3] = [(8, &[]), (15, &[255, 0]), (252, &[2])];
 const MIXED: [Column; 4] = [(3, &[]), (15, &[40, 0]), (8, &[]), (18, &[0])];
 const MIB: usize = 1 << 20;
 
-fn directory(name: &'static str, bytes: usize) -> Shape {
-    Shape { name, bytes, event: 8000, rows_events: 16, checksums: true, columns: DIRECTORY.to_vec() }
+fn narrow(name: &'static str, bytes: usize) -> Shape {
+    Shape { name, bytes, event: 8000, rows_events: 16, checksums: true, columns: NARROW.to_vec() }
 }
 
 /// The logs of the table in bench/README.md.
 pub fn shapes() -> Vec<Shape> {
     vec![
-        directory("8 KiB events", 256 * MIB),
-        Shape { event: 60, rows_events: 1, ..directory("100-byte events", 64 * MIB) },
-        Shape { checksums: false, ..directory("no checksums", 64 * MIB) },
-        Shape { columns: MIXED.repeat(100), ..directory("400 columns", 64 * MIB) },
-        Shape { columns: TEXT.to_vec(), ..directory("texts", 64 * MIB) },
+        narrow("8 KiB events", 256 * MIB),
+        Shape { event: 60, rows_events: 1, ..narrow("100-byte events", 64 * MIB) },
+        Shape { checksums: false, ..narrow("no checksums", 64 * MIB) },
+        Shape { columns: MIXED.repeat(100), ..narrow("400 columns", 64 * MIB) },
+        Shape { columns: TEXT.to_vec(), ..narrow("texts", 64 * MIB) },
     ]
 }
 
 /// The same shape in two sizes, to see that cost is linear.
 pub fn two_sizes() -> [Shape; 2] {
-    [directory("8 MiB", 8 * MIB), directory("64 MiB", 64 * MIB)]
+    [narrow("8 MiB", 8 * MIB), narrow("64 MiB", 64 * MIB)]
 }
 
 /// splitmix64
@@ -106,7 +106,7 @@ fn packed(n: usize) -> Vec<u8> {
 
 fn table_map(columns: &[Column]) -> Vec<u8> {
     let mut body = vec![7, 0, 0, 0, 0, 0, 1, 0];
-    body.extend_from_slice(b"\x06centre\0\x09directory\0");
+    body.extend_from_slice(b"\x04test\0\x01t\0");
     body.extend_from_slice(&packed(columns.len()));
     body.extend(columns.iter().map(|c| c.0));
     let metadata: Vec<u8> = columns.iter().flat_map(|c| c.1.iter().copied()).collect();
