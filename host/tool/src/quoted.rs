@@ -14,25 +14,31 @@ pub fn quoted(bytes: &[u8], quote: u8, control: fn(u8, &mut Output), out: &mut O
         _ => out.byte(byte),
     };
     out.byte(quote);
-    let (runs, tail) = bytes.as_chunks::<8>();
-    for run in runs {
-        if is_plain(u64::from_le_bytes(*run), quote) {
-            out.signs(run);
-        } else {
-            run.iter().for_each(|&byte| escaped(byte, out));
-        }
+    let mut left = bytes;
+    while let Some((&run, rest)) = left.split_first_chunk::<8>() {
+        let plain = plain_front(u64::from_le_bytes(run), quote);
+        out.some(&run, plain);
+        left = match run.get(plain) {
+            None => rest,
+            Some(&byte) => {
+                escaped(byte, out);
+                left.get(plain + 1..).unwrap_or_default()
+            }
+        };
     }
-    tail.iter().for_each(|&byte| escaped(byte, out));
+    left.iter().for_each(|&byte| escaped(byte, out));
     out.byte(quote);
 }
 
-/// Whether none of eight bytes is to be escaped.
+/// How many of eight bytes, the lowest first, stand before the first that is to
+/// be escaped.
 #[inline]
-fn is_plain(eight: u64, quote: u8) -> bool {
+fn plain_front(eight: u64, quote: u8) -> usize {
     const ONES: u64 = u64::from_ne_bytes([1; 8]);
     const HIGH: u64 = ONES << 7;
-    // has a bit exactly where some byte is below n, for n up to 0x80
+    // for n up to 0x80, the lowest bit is in the first byte below n
     let below = |x: u64, n: u64| x.wrapping_sub(ONES * n) & !x & HIGH;
     let equal = |byte: u8| below(eight ^ (ONES * u64::from(byte)), 1);
-    below(eight, 0x20) | equal(quote) | equal(b'\\') == 0
+    let escaped = below(eight, 0x20) | equal(quote) | equal(b'\\');
+    (escaped.trailing_zeros() / 8) as usize
 }
