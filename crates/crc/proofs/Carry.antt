@@ -149,57 +149,76 @@ lefts-are (s ∷ ss) t x =
     (lefts-are ss (right (leb s 64) (within 64 ss) t) x)
     ∙ sym (xor-mod (x * 2 ^ 64 / 2 ^ s) (mix ss (x * 2 ^ 64)) 64)
 
--- the low word of the shifts, place by place
-abbrev pub words : List ℕ → ℕ → ℕ
-words [] h = 0
-words (s ∷ ss) h = bitXor (h / 2 ^ s % 2 ^ 64) (words ss h)
+-- the low word of b bits of the shifts, place by place
+abbrev pub words : ℕ → List ℕ → ℕ → ℕ
+words b [] h = 0
+words b (s ∷ ss) h = bitXor (h / 2 ^ s % 2 ^ b) (words b ss h)
 
-pub words-are : (ss : List ℕ) (h : ℕ) → mix ss h % 2 ^ 64 ≡ words ss h
+pub words-are : (b : ℕ) (ss : List ℕ) (h : ℕ) → mix ss h % 2 ^ b ≡ words b ss h
 unfolding mix
-words-are [] h = refl
-words-are (s ∷ ss) h = xor-mod (h / 2 ^ s) (mix ss h) 64 ∙ ap (bitXor (h / 2 ^ s % 2 ^ 64)) (words-are ss h)
+words-are b [] h = mod-eq-of-lt (pow-pos b)
+words-are b (s ∷ ss) h = xor-mod (h / 2 ^ s) (mix ss h) b ∙ ap (bitXor (h / 2 ^ s % 2 ^ b)) (words-are b ss h)
 
--- what the words before h carry into w and into what follows it
+-- what the words before h carry into w and into what follows it, for words of b bits
+pub flush-by : (b : ℕ) (ss : List ℕ) (h G w R : ℕ) → h < 2 ^ b → w < 2 ^ b
+    → bitXor (mix ss (G * 2 ^ b + h)) (R * 2 ^ b + w) ≡ bitXor (mix ss G) R * 2 ^ b + bitXor (mix ss (G * 2 ^ b + h) % 2 ^ b) w
+flush-by b ss h G w R hh hw =
+    let m = mix ss (G * 2 ^ b + h) in
+    let up : m / 2 ^ b ≡ mix ss G = sym (mix-shr ss (G * 2 ^ b + h) b) ∙ ap (mix ss) (high G b hh) in
+    ap (λ (y : ℕ). bitXor y (R * 2 ^ b + w)) (sym (split m b) ∙ ap (λ (y : ℕ). y * 2 ^ b + m % 2 ^ b) up)
+    ∙ xor-block b (mix ss G) R (m % 2 ^ b) w (mod-lt m (pow-pos b)) hw
+
 pub flush : (ss : List ℕ) (h G w R : ℕ) → h < 2 ^ 64 → w < 2 ^ 64
     → bitXor (mix ss (on h G)) (on w R) ≡ on (bitXor (mix ss (on h G) % 2 ^ 64) w) (bitXor (mix ss G) R)
-flush ss h G w R hh hw =
-    ap (λ (y : ℕ). bitXor y (on w R))
-    (on-parts (mix ss (on h G))
-    ∙ ap (on (mix ss (on h G) % 2 ^ 64)) (sym (mix-shr ss (on h G) 64) ∙ ap (mix ss) (on-high h G hh)))
-    ∙ on-xor (mix ss (on h G) % 2 ^ 64) (mix ss G) w R (mod-lt (mix ss (on h G)) (pow-pos 64)) hw
+unfolding on
+flush ss h G w R hh hw = flush-by 64 ss h G w R hh hw
 
 -- ---- one word less
 
--- x less what it is carried to
+-- x, of b bits, less what it is carried to
+abbrev pub multiple-by : ℕ → List ℕ → ℕ → ℕ → ℕ
+multiple-by b ss D x = bitXor x (mix ss (x * 2 ^ D) * 2 ^ b)
+
 abbrev pub multiple : List ℕ → ℕ → ℕ → ℕ
-multiple ss D x = bitXor x (mix ss (x * 2 ^ D) * 2 ^ 64)
+multiple = multiple-by 64
 
-module _ (ss : List ℕ) (D K : ℕ) (t : T (within D ss)) (gone : bitSteps (suc K) (multiple ss D 1) ≡ 0) where
-  multiples : Linear (multiple ss D)
+module _ (b : ℕ) (ss : List ℕ) (D K : ℕ) (t : T (within D ss)) (gone : bitSteps (suc K) (multiple-by b ss D 1) ≡ 0) where
+  multiples : Linear (multiple-by b ss D)
   multiples =
-      xor-linear (λ x. x) (λ x. mix ss (x * 2 ^ D) * 2 ^ 64) id-linear
-      (comp-linear (λ x. x * 2 ^ 64) (λ x. mix ss (x * 2 ^ D)) (shl-linear 64) (mix-linear ss D t))
+      xor-linear (λ x. x) (λ x. mix ss (x * 2 ^ D) * 2 ^ b) id-linear
+      (comp-linear (λ x. x * 2 ^ b) (λ x. mix ss (x * 2 ^ D)) (shl-linear b) (mix-linear ss D t))
 
-  carry : (x M : ℕ) → x < 2 ^ 64 → K ≤ M → bitSteps (64 + M) x ≡ bitSteps M (mix ss (x * 2 ^ D))
+  carry : (x M : ℕ) → x < 2 ^ b → K ≤ M → bitSteps (b + M) x ≡ bitSteps M (mix ss (x * 2 ^ D))
   carry x M hx hM =
-      xor-equal (bitSteps (64 + M) x) (bitSteps M (mix ss (x * 2 ^ D)))
-      (ap (bitXor (bitSteps (64 + M) x))
-      (sym (steps-add 64 M (mix ss (x * 2 ^ D) * 2 ^ 64) ∙ ap (bitSteps M) (steps-shifted 64 (mix ss (x * 2 ^ D)))))
-      ∙ sym (steps-xor (64 + M) x (mix ss (x * 2 ^ D) * 2 ^ 64))
-      ∙ vanish (multiple ss D) multiples K gone 64 x (64 + M) hx (omega arith))
+      xor-equal (bitSteps (b + M) x) (bitSteps M (mix ss (x * 2 ^ D)))
+      (ap (bitXor (bitSteps (b + M) x))
+      (sym (steps-add b M (mix ss (x * 2 ^ D) * 2 ^ b) ∙ ap (bitSteps M) (steps-shifted b (mix ss (x * 2 ^ D)))))
+      ∙ sym (steps-xor (b + M) x (mix ss (x * 2 ^ D) * 2 ^ b))
+      ∙ vanish (multiple-by b ss D) multiples K gone b x (b + M) hx (omega arith))
 
-  pub carry-on : (x R M : ℕ) → x < 2 ^ 64 → K ≤ M → bitSteps (64 + M) (on x R) ≡ bitSteps M (bitXor (mix ss (x * 2 ^ D)) R)
-  carry-on x R M hx hM =
-      steps-split 64 M (on x R)
-      ∙ ap₂ bitXor (ap (bitSteps M) (on-high x R hx)) (ap (bitSteps (64 + M)) (on-low x R hx) ∙ carry x M hx hM)
+  pub carry-by : (x R M : ℕ) → x < 2 ^ b → K ≤ M → bitSteps (b + M) (R * 2 ^ b + x) ≡ bitSteps M (bitXor (mix ss (x * 2 ^ D)) R)
+  carry-by x R M hx hM =
+      steps-split b M (R * 2 ^ b + x)
+      ∙ ap₂ bitXor (ap (bitSteps M) (high R b hx)) (ap (bitSteps (b + M)) (low R b hx) ∙ carry x M hx hM)
       ∙ sym (steps-xor M R (mix ss (x * 2 ^ D)))
       ∙ ap (bitSteps M) (xor-comm R (mix ss (x * 2 ^ D)))
 
   -- one turn: the word w, with what is carried into it, joins those that are carried on
-  pub turn : (h G w R M : ℕ) → h < 2 ^ 64 → w < 2 ^ 64 → K ≤ M → (x : ℕ) → x < 2 ^ 64 → x ≡ bitXor (mix ss (on h G) % 2 ^ 64) w
-      → bitSteps (64 + M) (bitXor (mix ss (on h G)) (on w R)) ≡ bitSteps M (bitXor (mix ss (bitXor (x * 2 ^ D) G)) R)
-  turn h G w R M hh hw hM x hx e =
-      ap (bitSteps (64 + M)) (flush ss h G w R hh hw ∙ ap (λ (y : ℕ). on y (bitXor (mix ss G) R)) (sym e))
-      ∙ carry-on x (bitXor (mix ss G) R) M hx hM
+  pub turn-by : (h G w R M : ℕ) → h < 2 ^ b → w < 2 ^ b → K ≤ M → (x : ℕ) → x < 2 ^ b → x ≡ bitXor (mix ss (G * 2 ^ b + h) % 2 ^ b) w
+      → bitSteps (b + M) (bitXor (mix ss (G * 2 ^ b + h)) (R * 2 ^ b + w)) ≡ bitSteps M (bitXor (mix ss (bitXor (x * 2 ^ D) G)) R)
+  turn-by h G w R M hh hw hM x hx e =
+      ap (bitSteps (b + M)) (flush-by b ss h G w R hh hw ∙ ap (λ (y : ℕ). bitXor (mix ss G) R * 2 ^ b + y) (sym e))
+      ∙ carry-by x (bitXor (mix ss G) R) M hx hM
       ∙ ap (bitSteps M)
       (sym (xor-assoc (mix ss (x * 2 ^ D)) (mix ss G) R) ∙ ap (λ (y : ℕ). bitXor y R) (sym (mix-xor ss (x * 2 ^ D) G)))
+
+-- the same for words of 64 bits
+module _ (ss : List ℕ) (D K : ℕ) (t : T (within D ss)) (gone : bitSteps (suc K) (multiple ss D 1) ≡ 0) where
+  pub carry-on : (x R M : ℕ) → x < 2 ^ 64 → K ≤ M → bitSteps (64 + M) (on x R) ≡ bitSteps M (bitXor (mix ss (x * 2 ^ D)) R)
+  unfolding on
+  carry-on = carry-by 64 ss D K t gone
+
+  pub turn : (h G w R M : ℕ) → h < 2 ^ 64 → w < 2 ^ 64 → K ≤ M → (x : ℕ) → x < 2 ^ 64 → x ≡ bitXor (mix ss (on h G) % 2 ^ 64) w
+      → bitSteps (64 + M) (bitXor (mix ss (on h G)) (on w R)) ≡ bitSteps M (bitXor (mix ss (bitXor (x * 2 ^ D) G)) R)
+  unfolding on
+  turn = turn-by 64 ss D K t gone

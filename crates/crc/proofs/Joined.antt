@@ -2,7 +2,7 @@
 -- Assumes nothing.
 use mathlib.Core.Path.{_≡_, refl, sym, ap, ap₂, _∙_}
 use mathlib.Core.List.{List, [], _∷_, _++_}
-use Prim.Native.Nat.{ℕ, zero, suc, _+_, _-_, _*_, _/_, _%_, _^_, _≤_, _<_}
+use Prim.Native.Nat.{ℕ, zero, suc, _+_, _-_, _*_, _/_, _%_, _^_, _<_}
 use native.Mathlib.Nat.{zero-add}
 use native.Mathlib.Numerals.{add-one}
 use native.Mathlib.Omega.{arith}
@@ -11,10 +11,10 @@ use mir.Val.{Fits}
 use mir.Facts.{fits-lit}
 use lib.Bits.{bitXor}
 use lib.Dec.{lit≤}
-use lib.ListN.{length, take, drop, set, length-drop, take-append-drop}
-use lib.Seq.{set-split, take-all, drop-drop}
+use lib.ListN.{length, take, drop, set, length-drop}
+use lib.Seq.{set-split, take-all}
 use Rattle.format.specs.Bytes.{num, fieldAt}
-use Rattle.wire.proofs.Laws.{Bytes, bytes-take, bytes-drop}
+use Rattle.wire.proofs.Laws.{Bytes}
 use Rattle.format.specs.Crc.{bitSteps, crcFrom, crc32}
 use Rattle.crc.proofs.Start.{crc-lt}
 use Rattle.crc.proofs.Ends.{tiny}
@@ -24,17 +24,6 @@ pub crcFrom-++ : (c : ℕ) (xs ys : List ℕ) → crcFrom c (xs ++ ys) ≡ crcFr
 unfolding crcFrom
 crcFrom-++ c [] ys = refl
 crcFrom-++ c (x ∷ xs) ys = crcFrom-++ (bitSteps 8 (bitXor c x)) xs ys
-
--- the bytes from i, those before e first
-pub piece : (v i e : ℕ) (s : List ℕ) → i ≤ e → crcFrom (crcFrom v (take (e - i) (drop i s))) (drop e s) ≡ crcFrom v (drop i s)
-piece v i e s h =
-    let n : i + (e - i) ≡ e = omega arith in
-    ap (crcFrom (crcFrom v (take (e - i) (drop i s)))) (sym (drop-drop (e - i) i s ∙ ap (λ (k : ℕ). drop k s) n))
-    ∙ sym (crcFrom-++ v (take (e - i) (drop i s)) (drop (e - i) (drop i s)))
-    ∙ ap (crcFrom v) (take-append-drop (e - i) (drop i s))
-
-pub piece-lt : (v i n : ℕ) (s : List ℕ) → Bytes s → v < 2 ^ 32 → crcFrom v (take n (drop i s)) < 2 ^ 32
-piece-lt v i n s hs hv = crc-lt v (take n (drop i s)) (bytes-take n (drop i s) (bytes-drop i s hs)) hv
 
 single : (b : ℕ) → Fits w8 b → Bytes (b ∷ [])
 single b h zero = h

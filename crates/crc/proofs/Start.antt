@@ -12,7 +12,7 @@ use lib.ListN.{length, getD, take, drop, length-drop}
 use lib.Pow.{pow-add, high, shl-shr, shr-shr}
 use lib.Seq.{drop-drop, length-take-le}
 use Rattle.format.specs.Bytes.{num, fieldAt}
-use Rattle.wire.proofs.Laws.{Bytes, bytes-take, num-below, field-more}
+use Rattle.wire.proofs.Laws.{Bytes, bytes-take, num-below}
 use Rattle.format.specs.Crc.{bitStep, bitSteps, crcFrom}
 use Rattle.crc.specs.Words.{on}
 use Rattle.crc.proofs.Laws.{xor-assoc, steps-xor, steps-shifted, steps-add}
@@ -47,30 +47,6 @@ le-split (suc k) (b ∷ bs) h =
     ∙ ap (λ (x : ℕ). x + (num (take k bs) * 256 + b))
     (mul-assoc (num (drop k bs)) (2 ^ (8 * k)) 256 ∙ ap (λ (x : ℕ). num (drop k bs) * x) (sym (eight k)))
 
--- eight bytes by twos
-below : (s : List ℕ) (p q k : ℕ) → q ≡ suc p → p < length s → fieldAt s p (suc k) ≡ fieldAt s q k * 256 + getD s p 0
-below s p q k e h = rw e (field-more s p k h)
-
-none-left : (s : List ℕ) (p : ℕ) → fieldAt s p 0 ≡ 0
-unfolding fieldAt num
-none-left s p = refl
-
-pub by-twos : (s : List ℕ) (at a b c d : ℕ) → at + 8 ≤ length s
-    → a ≡ getD s (at + 1) 0 * 256 + getD s at 0 → b ≡ getD s (at + 3) 0 * 256 + getD s (at + 2) 0
-    → c ≡ getD s (at + 5) 0 * 256 + getD s (at + 4) 0 → d ≡ getD s (at + 7) 0 * 256 + getD s (at + 6) 0
-    → (d * 65536 + c) * 4294967296 + (b * 65536 + a) ≡ fieldAt s at 8
-by-twos s at a b c d h ea eb ec ed =
-    let l₀ : fieldAt s at 8 ≡ fieldAt s (at + 1) 7 * 256 + getD s at 0 = below s at (at + 1) 7 (omega arith) (omega arith) in
-    let l₁ : fieldAt s (at + 1) 7 ≡ fieldAt s (at + 2) 6 * 256 + getD s (at + 1) 0 = below s (at + 1) (at + 2) 6 (omega arith) (omega arith) in
-    let l₂ : fieldAt s (at + 2) 6 ≡ fieldAt s (at + 3) 5 * 256 + getD s (at + 2) 0 = below s (at + 2) (at + 3) 5 (omega arith) (omega arith) in
-    let l₃ : fieldAt s (at + 3) 5 ≡ fieldAt s (at + 4) 4 * 256 + getD s (at + 3) 0 = below s (at + 3) (at + 4) 4 (omega arith) (omega arith) in
-    let l₄ : fieldAt s (at + 4) 4 ≡ fieldAt s (at + 5) 3 * 256 + getD s (at + 4) 0 = below s (at + 4) (at + 5) 3 (omega arith) (omega arith) in
-    let l₅ : fieldAt s (at + 5) 3 ≡ fieldAt s (at + 6) 2 * 256 + getD s (at + 5) 0 = below s (at + 5) (at + 6) 2 (omega arith) (omega arith) in
-    let l₆ : fieldAt s (at + 6) 2 ≡ fieldAt s (at + 7) 1 * 256 + getD s (at + 6) 0 = below s (at + 6) (at + 7) 1 (omega arith) (omega arith) in
-    let l₇ : fieldAt s (at + 7) 1 ≡ fieldAt s (at + 8) 0 * 256 + getD s (at + 7) 0 = below s (at + 7) (at + 8) 0 (omega arith) (omega arith) in
-    let l₈ : fieldAt s (at + 8) 0 ≡ 0 = none-left s (at + 8) in
-    omega arith
-
 -- a word of eight bytes, and those above it
 pub num-word : (s : List ℕ) (i : ℕ) → i + 8 ≤ length s → num (drop i s) ≡ on (fieldAt s i 8) (num (drop (i + 8) s))
 unfolding fieldAt on
@@ -97,6 +73,9 @@ unfolding crcFrom
 crc-lt c [] h hc = hc
 crc-lt c (b ∷ bs) h hc =
     crc-lt (bitSteps 8 (bitXor c b)) bs (λ i. h (suc i)) (steps-lt 8 (bitXor c b) (xor-lt 32 c b hc (omega (arith, h 0 .fits))))
+
+pub crc-fits : {r : ℕ} (c : ℕ) (bs : List ℕ) → Bytes bs → c < 2 ^ 32 → r ≡ crcFrom c bs → r < 2 ^ 32
+crc-fits c bs h hc e = rw e (crc-lt c bs h hc)
 
 -- the first k bytes fill the top of a word, and the register goes on into the next
 pub start : (c w k : ℕ) (s : List ℕ) → Bytes s → c < 2 ^ 32 → 1 ≤ k → k ≤ 8 → k ≤ length s → w ≡ num s % 2 ^ 64

@@ -44,7 +44,7 @@ far-word a b c d e ha hb hc hd =
     λ k. later-word a (on b (on c (on d e))) (64 + k) ha ∙ later-word b (on c (on d e)) k hb in
     let w₃ : H / 2 ^ 137 % 2 ^ 64 ≡ on c d / 2 ^ 9 % 2 ^ 64 = ap (λ (y : ℕ). y % 2 ^ 64) (two 9) ∙ near-word c d e 9 hc hd (lit≤ tt) in
     let w₄ : H / 2 ^ 175 % 2 ^ 64 ≡ on c d / 2 ^ 47 % 2 ^ 64 = ap (λ (y : ℕ). y % 2 ^ 64) (two 47) ∙ near-word c d e 47 hc hd (lit≤ tt) in
-    sym (words-are far H ∙ ap₂ bitXor w₁ (ap₂ bitXor w₂ (ap₂ bitXor w₃ (xor-zero-r (H / 2 ^ 175 % 2 ^ 64) ∙ w₄))))
+    sym (words-are 64 far H ∙ ap₂ bitXor w₁ (ap₂ bitXor w₂ (ap₂ bitXor w₃ (xor-zero-r (H / 2 ^ 175 % 2 ^ 64) ∙ w₄))))
 
 -- the same, with the last of the four taken apart
 pub far-sum : (o₁ o₂ o₃ c d m : ℕ) → Word c
@@ -69,7 +69,7 @@ near-words a b c e ha hb hc =
     let two : (k : ℕ) → k ≤ 64 → H / 2 ^ (64 + k) % 2 ^ 64 ≡ on b c / 2 ^ k % 2 ^ 64 =
     λ k h. ap (λ (y : ℕ). y % 2 ^ 64) (later-word a (on b (on c e)) k ha) ∙ near-word b c e k hb hc h in
     sym
-    (words-are near H
+    (words-are 64 near H
     ∙ ap₂ bitXor (one 33 (lit≤ tt)) (ap₂ bitXor (one 39 (lit≤ tt)) (ap₂ bitXor (one 60 (lit≤ tt))
     (ap₂ bitXor (two 29 (lit≤ tt)) (ap₂ bitXor (two 50 (lit≤ tt)) (ap₂ bitXor (two 58 (lit≤ tt))
     (xor-zero-r (H / 2 ^ 126 % 2 ^ 64) ∙ two 62 (lit≤ tt))))))))

@@ -7,25 +7,13 @@ ghost use lib.ListN.{length, drop};
 ghost use Rattle.format.specs.Bytes.{num, fieldAt};
 ghost use Rattle.format.specs.Crc.{bitSteps, crcFrom, crc32};
 ghost use Rattle.crc.specs.Words.{on, mix, lefts, far, near, next, itself, inverse₁, inverse₂};
+use fold::clear;
+use fold::pay;
+use fold::room;
+use fold::take;
+use wire::word;
 
-// Two bytes.
-fn two(a: u8, b: u8) -> u64
-    ensures { λ r. ⌜ (r ≡ b * 256 + a) × (r < 65536) ⌝ }
-{
-    (b as u64) * 256 + (a as u64)
-}
-
-// The eight bytes from at, in a form that a compiler reads at once.
-fn word(s: &[u8], at: usize) -> u64
-    requires { ⌜ at + 8 ≤ length (now s) ⌝ }
-    ensures { λ r. ⌜ r ≡ fieldAt (now (s .entry)) at 8 ⌝ }
-{
-    let a = two(s[at], s[at + 1]);
-    let b = two(s[at + 2], s[at + 3]);
-    let c = two(s[at + 4], s[at + 5]);
-    let d = two(s[at + 6], s[at + 7]);
-    (d * 65536 + c) * 4294967296 + (b * 65536 + a)
-}
+mod fold;
 
 // The 64 bits from bit s of lo with hi above it.
 fn over(lo: u64, hi: u64, s: u64) -> u64
@@ -267,27 +255,39 @@ fn after(c: u64, s: &[u8]) -> u64
     }
 }
 
-// Where the piece from i ends, of n bytes.
-fn piece_end(i: usize, n: usize) -> usize
-    requires { ⌜ i < n ⌝ }
-    ensures { λ r. ⌜ (i < r) × (r ≤ n) ⌝ }
+// The same for 771 bytes or more. The register begins as a past of the window that falls on the first four bytes alone.
+fn folded(c: u64, s: &[u8]) -> u64
+    requires { ⌜ c < 2 ^ 32 ⌝ ∗ ⌜ 771 ≤ length (now s) ⌝ }
+    ensures { λ r. ⌜ r ≡ crcFrom c (now (s .entry)) ⌝ }
 {
-    if 8192 < n - i { i + 4096 } else { n }
+    let mut w = [0u8; 3136];
+    w[61] = (c % 256) as u8;
+    w[62] = (c / 256 % 256) as u8;
+    w[63] = (c / 65536 % 256) as u8;
+    w[64] = (c / 16777216) as u8;
+    let mut q: usize = 61;
+    let mut p: usize = 0;
+    while 771 <= s.len() - p {
+        q = room(&mut w, q);
+        take(&mut w, q, s, p);
+        q += 256;
+        p += 256;
+    }
+    clear(&mut w, q);
+    let mut r = [0u8; 771];
+    pay(&mut r, &w, q, s, p);
+    let n = s.len() - p;
+    after(0, &r[..n])
 }
 
-// The register c after the bytes: a log's parts are fed one after the other. Many bytes go in pieces, since a processor fetches them from
-// memory sooner so.
+// The register c after the bytes: a log's parts are fed one after the other.
 pub fn more(c: u32, s: &[u8]) -> u32
     ensures { λ r. ⌜ r ≡ crcFrom c (now (s .entry)) ⌝ }
 {
-    let mut v = c as u64;
-    let mut i: usize = 0;
-    while i < s.len() {
-        let end = piece_end(i, s.len());
-        v = after(v, &s[i..end]);
-        i = end;
+    if s.len() < 1024 {
+        return after(c as u64, s) as u32;
     }
-    v as u32
+    folded(c as u64, s) as u32
 }
 
 // The checksum.

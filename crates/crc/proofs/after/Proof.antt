@@ -13,7 +13,7 @@ use Rattle.crc.proofs.few.Reads as few-reads
 use Rattle.crc.proofs.last_one.Reads as last-one-reads
 use Rattle.crc.proofs.many.Reads as many-reads
 use Rattle.wire.proofs.number.Reads as number-reads
-use Rattle.crc.proofs.word.Reads as word-reads
+use Rattle.wire.proofs.word.Reads as word-reads
 
 -- src/lib.rt:157:9
 returns : tie.Need-returns

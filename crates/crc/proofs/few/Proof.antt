@@ -15,7 +15,7 @@ use Rattle.crc.proofs.few.Reads as reads
 use Rattle.crc.proofs.few.Lts as lts
 use Rattle.crc.proofs.from_near.Reads as from-near-reads
 use Rattle.crc.proofs.last_near.Reads as last-near-reads
-use Rattle.crc.proofs.word.Reads as word-reads
+use Rattle.wire.proofs.word.Reads as word-reads
 
 abbrev Inv-loop : tie.InvT-loop
 Inv-loop s at first second a₀ b₀ c₀ x₀ y₀ i₀ a b c x y i =

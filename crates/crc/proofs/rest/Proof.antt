@@ -14,7 +14,7 @@ use Rattle.crc.proofs.rest.Reads as reads
 use Rattle.crc.proofs.rest.Lts as lts
 use Rattle.crc.proofs.from_far.Reads as from-far-reads
 use Rattle.crc.proofs.last_five.Reads as last-five-reads
-use Rattle.crc.proofs.word.Reads as word-reads
+use Rattle.wire.proofs.word.Reads as word-reads
 
 abbrev Inv-loop : tie.InvT-loop
 Inv-loop s at a0 b0 c0 d0 e0 a₀ b₀ c₀ d₀ e₀ i₀ a b c d e i =
