@@ -13,7 +13,7 @@ ghost use Rattle.format.specs.AtEntry.{changeAt, databaseAt, tableAt, valueAt, 
 ghost use Rattle.format.specs.declared.Part.{Part};
 ghost use Rattle.walk.specs.State.{checkedAnswer};
 ghost use Rattle.entry.specs.Answer.{valuedAnswer};
-ghost use Rattle.entry.specs.Values.{listingCells};
+ghost use Rattle.listed.specs.Values.{listingCells};
 ghost use Rattle.cells.specs.Cells.{leading, after};
 ghost use Rattle.tegmeadow.specs.Answer.{checkedNumber, checkedPlace, checkedEvents, checkedChanges, counted, changedNumber, changedPlace, entryAfter, tableAfter, columnsAfter, valuedNumber, valuedPlace, cellAfter, entryIn};
 use entry::Change;
@@ -330,5 +330,5 @@ pub extern "C" fn tegmeadow_values(log: &[u8], listing: &[u32], cells: &mut [u64
     ensures answer { λ r. ⌜ r ≡ size (leading (size (now (cells .entry)) / 8) (listingCells (now (log .entry)) (now (listing .entry)))) ⌝ }
     ensures cells { λ _. ⌜ now (cells .exit) ≡ after 0 (leading (size (now (cells .entry)) / 8) (listingCells (now (log .entry)) (now (listing .entry)))) (now (cells .entry)) ⌝ }
 {
-    entry::values(log, listing, cells)
+    listed::values(log, listing, cells)
 }
