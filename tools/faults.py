@@ -9,7 +9,7 @@ FAULTS = [
     ("Bytes", "num (b ∷ bs) = num bs * 256 + b", "num (b ∷ bs) = num bs * 255 + b"),
     ("Bytes", "bigFrom a (b ∷ bs) = bigFrom (a * 256 + b) bs", "bigFrom a (b ∷ bs) = bigFrom (b * 256 + a) bs"),
     ("Bytes", "bytes n k s = cond (leb k (length s))", "bytes n k s = cond (ltb k (length s))"),
-    ("Crc", "0xEDB88320", "0xEDB88321"),
+    ("Crc", "1) 0xEDB88320 0)", "1) 0xEDB88321 0)"),
     ("Crc", "crc32 bs = (2 ^ 32 - 1) - crcFrom (2 ^ 32 - 1) bs", "crc32 bs = crcFrom (2 ^ 32 - 1) bs"),
     ("Crc", "crc32 bs = (2 ^ 32 - 1) - crcFrom (2 ^ 32 - 1) bs", "crc32 bs = (2 ^ 32 - 1) - crcFrom 0 bs"),
     ("Packed", "cond (leb b 250)", "cond (leb b 251)"),
@@ -111,8 +111,8 @@ def attempt(k, file, old, new, root, lane):
     copy = lane
     path = os.path.join(copy, "crates/format/specs", file + ".antt")
     text = open(path).read()
-    if text.count(old) < 1:
-        return "BAD: text not found"
+    if text.count(old) < 1 or text[:text.index(old)].rsplit("\n", 1)[-1].startswith("--"):
+        return "BAD: text not found, or in a comment"
     open(path, "w").write(text.replace(old, new, 1))
     try:
         run = subprocess.run(["rt", "dev", "format"], cwd=copy, capture_output=True, text=True, env=dict(os.environ, LC_ALL="C"))
