@@ -4,3 +4,4 @@ pub mod PackedAt
 pub mod PackedIs
 pub mod Differences
 pub mod Below
+pub mod Same

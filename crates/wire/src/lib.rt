@@ -7,7 +7,7 @@ ghost use lib.ListN.{length};
 ghost use Rattle.format.specs.Bytes.{fieldAt, bigAt};
 ghost use Rattle.format.specs.Columns.{bit, bits, count, bitBytes};
 ghost use Rattle.format.specs.Values.{signed};
-ghost use Rattle.wire.specs.Answer.{packedAt, longAt};
+ghost use Rattle.wire.specs.Answer.{packedAt, longAt, SameIs};
 
 // A packed number and the place after it; or one that is malformed or cut short (01, Table maps).
 pub enum Packing {
@@ -33,6 +33,40 @@ pub fn number(s: &[u8], at: usize, k: usize) -> u64
         v = v * 256 + s[at + i] as u64;
     }
     v
+}
+
+// Two bytes.
+fn two(a: u8, b: u8) -> u64
+    ensures { λ r. ⌜ (r ≡ b * 256 + a) × (r < 65536) ⌝ }
+{
+    (b as u64) * 256 + (a as u64)
+}
+
+// The eight bytes from at, in a form that a compiler reads at once.
+pub fn word(s: &[u8], at: usize) -> u64
+    requires { ⌜ at + 8 ≤ length (now s) ⌝ }
+    ensures { λ r. ⌜ r ≡ fieldAt (now (s .entry)) at 8 ⌝ }
+{
+    let a = two(s[at], s[at + 1]);
+    let b = two(s[at + 2], s[at + 3]);
+    let c = two(s[at + 4], s[at + 5]);
+    let d = two(s[at + 6], s[at + 7]);
+    (d * 65536 + c) * 4294967296 + (b * 65536 + a)
+}
+
+// The n bytes at one place are those at another.
+pub fn same_bytes(s: &[u8], a: usize, b: usize, n: usize) -> bool
+    requires { ⌜ (a + n ≤ length (now s)) × (b + n ≤ length (now s)) ⌝ }
+    ensures { λ r. ⌜ SameIs (now (s .entry)) a b n r ⌝ }
+{
+    let mut i: usize = 0;
+    while 8 <= n - i {
+        if word(s, a + i) != word(s, b + i) {
+            return false;
+        }
+        i += 8;
+    }
+    number(s, a + i, n - i) == number(s, b + i, n - i)
 }
 
 // The number in n bytes at a place, the highest first (01, Columns: 17, 18, 19 are big-endian).

@@ -1,0 +1,112 @@
+use mathlib.Core.Path.{_≡_}
+use Prim.Native.Nat.{_-_, _≤_}
+use lib.ListN.{take, drop}
+use Rattle.wire.proofs.Same.{s-other, s-again, s-last}
+use borrow.Author.Needs.{needs}
+use Rattle.wire.proofs.same_bytes.Statement.{statement}
+use Rattle.wire.proofs.same_bytes.Tie as tie
+use Rattle.wire.proofs.same_bytes.Reads as reads
+use Rattle.wire.proofs.same_bytes.Lts as lts
+use Rattle.wire.proofs.number.Reads as number-reads
+use Rattle.wire.proofs.word.Reads as word-reads
+
+abbrev Inv-loop : tie.InvT-loop
+Inv-loop s a b n i₀ i = (i ≤ n) × (take i (drop a s) ≡ take i (drop b s))
+
+abbrev μ-loop : tie.MeasureT-loop
+μ-loop s a b n i₀ i = n - i
+
+-- src/lib.rt:63:5
+loop-holds : tie.Need-loop-holds Inv-loop μ-loop
+loop-holds c = search needs
+
+-- src/lib.rt:63:16
+sub-loop : tie.Need-sub-loop Inv-loop μ-loop
+sub-loop c = search needs
+
+-- src/lib.rt:64:20
+add-word : tie.Need-add-word Inv-loop μ-loop
+add-word c = search needs
+
+-- src/lib.rt:64:12
+word-requires : tie.Need-word-requires Inv-loop μ-loop
+word-requires c κs = search needs
+
+-- src/lib.rt:64:38
+add-word-2 : tie.Need-add-word-2 Inv-loop μ-loop
+add-word-2 c = search needs
+
+-- src/lib.rt:64:30
+word-requires-2 : tie.Need-word-requires-2 Inv-loop μ-loop
+word-requires-2 c κs = search needs
+
+-- src/lib.rt:65:13
+returns : tie.Need-returns Inv-loop μ-loop
+returns c = search (needs, s-other)
+
+-- src/lib.rt:67:9
+add-i : tie.Need-add-i Inv-loop μ-loop
+add-i c = search needs
+
+-- src/lib.rt:63:5
+loop-less : tie.Need-loop-less Inv-loop μ-loop
+loop-less c = search needs
+
+-- src/lib.rt:63:5
+loop-again : tie.Need-loop-again Inv-loop μ-loop
+loop-again c =
+    let a = c .before .before .before .before .before .before .args in
+    let l = c .before .before .before .before .loop in
+    s-again (a .s .now) (c .before .before .before .before .before .shared-slice-known .given) (a .a) (a .b) (a .n) (search needs) (search needs) (l .i) (l .inv .0) (search needs) _ _ (c .before .before .word .ensures) (c .before .word2 .ensures) (c .if1 .left) (l .inv .1)
+
+-- src/lib.rt:69:15
+add-number : tie.Need-add-number Inv-loop μ-loop
+add-number c = search needs
+
+-- src/lib.rt:69:22
+sub-number : tie.Need-sub-number Inv-loop μ-loop
+sub-number c = search needs
+
+-- src/lib.rt:69:5
+number-requires : tie.Need-number-requires Inv-loop μ-loop
+number-requires c κs = search needs
+
+-- src/lib.rt:69:42
+add-number-2 : tie.Need-add-number-2 Inv-loop μ-loop
+add-number-2 c = search needs
+
+-- src/lib.rt:69:49
+sub-number-2 : tie.Need-sub-number-2 Inv-loop μ-loop
+sub-number-2 c = search needs
+
+-- src/lib.rt:69:32
+number-requires-2 : tie.Need-number-requires-2 Inv-loop μ-loop
+number-requires-2 c κs = search needs
+
+-- src/lib.rt:58:1
+returns-2 : tie.Need-returns-2 Inv-loop μ-loop
+returns-2 c = search (needs, s-last)
+
+pub same-bytes-spec : {M : Type 1} → statement M
+same-bytes-spec =
+    tie.close
+    (tie.spec
+    Inv-loop
+    μ-loop
+    loop-holds
+    sub-loop
+    add-word
+    word-requires
+    add-word-2
+    word-requires-2
+    returns
+    add-i
+    loop-less
+    loop-again
+    add-number
+    sub-number
+    number-requires
+    add-number-2
+    sub-number-2
+    number-requires-2
+    returns-2)
