@@ -2,7 +2,7 @@
 // isn't long every answer of Listing, Change and Value, up to the first that is refused.
 use entry::Changed;
 use entry::Valued;
-use walk::Checked;
+use events::Checked;
 
 // what a lent buffer holds before a listing
 const MARK: u32 = 0xa5a5a5a5;

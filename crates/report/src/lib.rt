@@ -13,8 +13,8 @@ use column::Time;
 use column::Value;
 use entry::Changed;
 use entry::Valued;
+use events::Checked;
 use format::Entry;
-use walk::Checked;
 
 // A number and a space before it.
 fn print_number(n: u64) {

@@ -6,7 +6,7 @@ use native.Mathlib.Nat.{le-of-eq}
 use lib.ListN.{length, take, drop, drop-of-length-le}
 use Rattle.format.specs.Answers as Answers
 use Answers.{fields}
-use Rattle.walk.specs.declared.Checked.{Checked}
+use Rattle.events.specs.declared.Checked.{Checked}
 use Rattle.walk.specs.State.{checkedAnswer}
 use Rattle.walk.specs.Listing.{listedAnswer}
 use Rattle.entry.specs.declared.Changed.{Changed}

@@ -19,9 +19,9 @@ ghost use Rattle.tegmeadow.specs.Answer.{checkedNumber, checkedPlace, ch
 use entry::Change;
 use entry::Changed;
 use entry::Valued;
+use events::Checked;
 use format::Entry;
 use format::Part;
-use walk::Checked;
 
 // An answer of Check in numbers.
 fn put_checked(x: Checked, place: &mut usize, events: &mut usize, changes: &mut usize) -> u32
