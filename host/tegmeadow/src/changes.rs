@@ -10,9 +10,12 @@ use crate::log::{Counts, Entry};
 use std::borrow::Cow;
 use std::rc::Rc;
 
-/// Cells of a block, and read at a time: a few, so that they stay near. A
-/// change that has more is read alone; its block is as long as it needs.
+/// Cells of a block, and read at a time: a few, so that they stay near.
 const BLOCK: usize = 256;
+
+/// Changes that are read at a time however many cells they have: the library
+/// looks at a table map once a call.
+const TOGETHER: usize = 4;
 
 /// What a change does to its row.
 #[derive(Clone, Copy, Debug, PartialEq, Eq, Hash)]
@@ -79,7 +82,7 @@ impl<'a> Changes<'a> {
                 break;
             };
             let more = images(entry) * table.columns;
-            if cells > 0 && cells + more > BLOCK {
+            if cells + more > BLOCK && self.tables.len() >= TOGETHER {
                 break;
             }
             cells += more;
