@@ -98,3 +98,8 @@ module _ (s : List ℕ) (w : Bytes s) (a b n : ℕ) (ha : a + n ≤ length s) (h
         λ t. ap (λ (k : ℕ). take k (drop a s)) (sym m) ∙ same-more s a b i (n - i) w (omega arith) (omega arith) e (sym xi ∙ eqb-eq x y t ∙ yi) ∙ ap (λ (k : ℕ). take k (drop b s)) m,
         λ t. not-same s a b i (n - i) n (omega arith) ha hb (λ z. clash (sym t ∙ eq-eqb x y (xi ∙ z ∙ sym yi))),
       )
+
+-- ---- a part by its two places
+
+pub same-take : (s : List ℕ) (at n : ℕ) → take (at + n - at) (drop at s) ≡ take n (drop at s)
+same-take s at n = let z : at + n - at ≡ n = omega arith in rw z
