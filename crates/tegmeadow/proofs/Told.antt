@@ -14,7 +14,7 @@ use Rattle.entry.specs.declared.Valued.{Valued}
 use Rattle.entry.specs.Answer.{changedAnswer, valuedAnswer}
 use Rattle.format.specs.Values as Values
 use Rattle.format.specs.declared.Part.{Part}
-use Rattle.column.specs.Value.{valueAnswer}
+use Rattle.value.specs.Value.{valueAnswer}
 use Rattle.cells.specs.Cells.{valueNumbers, cellNumbers}
 use Rattle.tegmeadow.specs.Answer.{checkedNumber, checkedPlace, checkedEvents, checkedChanges, counted, changedNumber, changedPlace, entryAfter, tableAfter, columnsAfter, valuedNumber, valuedPlace, cellAfter}
 
