@@ -7,14 +7,14 @@ ghost use Rattle.format.specs.Answers.{listOf, written, changeOf, valueOf};
 ghost use Rattle.format.specs.Parts.{textOf};
 ghost use Rattle.entry.specs.Answer.{changedAnswer, valuedAnswer};
 ghost use Rattle.walk.specs.Listing.{listedAnswer};
-use value::Date;
-use value::Datetime;
-use value::Time;
-use value::Value;
 use entry::Changed;
 use entry::Valued;
 use events::Checked;
 use format::Entry;
+use value::Date;
+use value::Datetime;
+use value::Time;
+use value::Value;
 
 // A number and a space before it.
 fn print_number(n: u64) {

@@ -7,41 +7,14 @@ ghost use Prim.Native.Nat.{_/_};
 ghost use lib.ListN.{length as size};
 ghost use Rattle.format.specs.Walk.{judge};
 ghost use Rattle.format.specs.Answers as Answers;
-ghost use Rattle.format.specs.Answers.{checkOf, listOf, written, changeOf, valueOf, fields};
+ghost use Rattle.format.specs.Answers.{checkOf, listOf, written, changeOf, valueOf};
 ghost use Rattle.format.specs.Parts.{databaseOf, tableOf, textOf};
 ghost use Rattle.format.specs.AtEntry.{changeAt, databaseAt, tableAt, valueAt, textAt};
 ghost use Rattle.format.specs.declared.Part.{Part};
-ghost use Rattle.walk.specs.State.{checkedAnswer};
-ghost use Rattle.entry.specs.Answer.{valuedAnswer};
 ghost use Rattle.listed.specs.Values.{listingCells};
 ghost use Rattle.cells.specs.Cells.{leading, after};
-ghost use Rattle.tegmeadow.specs.Answer.{checkedNumber, checkedPlace, checkedEvents, checkedChanges, counted, changedNumber, changedPlace, entryAfter, tableAfter, columnsAfter, valuedNumber, valuedPlace, cellAfter, entryIn};
-use entry::Change;
+ghost use Rattle.numbers.specs.Answer.{checkedNumber, checkedPlace, checkedEvents, checkedChanges, counted, changedNumber, changedPlace, entryAfter, tableAfter, columnsAfter, valuedNumber, valuedPlace, cellAfter, entryIn};
 use entry::Changed;
-use entry::Valued;
-use events::Checked;
-use format::Entry;
-use format::Part;
-
-// An answer of Check in numbers.
-fn put_checked(x: Checked, place: &mut usize, events: &mut usize, changes: &mut usize) -> u32
-    ensures { λ r. ⌜ ((y : Answers.Checked) → x ≡ checkedAnswer y → (r ≡ checkedNumber y) × (now (place .exit) ≡ checkedPlace y) × (now (events .exit) ≡ checkedEvents y) × (now (changes .exit) ≡ checkedChanges y)) ⌝ }
-{
-    match x {
-        Checked::Refused(n, p) => {
-            *place = p;
-            *events = 0;
-            *changes = 0;
-            n as u32
-        }
-        Checked::Accepted(e, c) => {
-            *place = 0;
-            *events = e;
-            *changes = c;
-            0
-        }
-    }
-}
 
 // Check: 0 for a log that is accepted, with how many events and changes it has, the place 0; else the refusal's number, its place, and counts of 0.
 #[no_mangle]
@@ -56,7 +29,7 @@ pub extern "C" fn tegmeadow_check(
     ensures events { λ _. ⌜ now (events .exit) ≡ checkedEvents (checkOf (judge (now (log .entry)))) ⌝ }
     ensures changes { λ _. ⌜ now (changes .exit) ≡ checkedChanges (checkOf (judge (now (log .entry)))) ⌝ }
 {
-    put_checked(binlog::check(log), place, events, changes)
+    numbers::put_checked(binlog::check(log), place, events, changes)
 }
 
 // Listing: answers as Check does; where the log is accepted and the buffer is long enough, it holds five numbers for each change, and what is past
@@ -75,36 +48,7 @@ pub extern "C" fn tegmeadow_list(
     ensures events { λ _. ⌜ now (events .exit) ≡ checkedEvents (counted (listOf (size (now (out .entry))) (judge (now (log .entry))))) ⌝ }
     ensures changes { λ _. ⌜ now (changes .exit) ≡ checkedChanges (counted (listOf (size (now (out .entry))) (judge (now (log .entry))))) ⌝ }
 {
-    put_checked(binlog::list(log, out), place, events, changes)
-}
-
-// The five numbers of a listing entry.
-fn put_entry(out: &mut [u32; 5], e: Entry)
-    ensures { λ _. ⌜ now (out .exit) ≡ fields e ⌝ }
-{
-    *out = [e.kind, e.event, e.map, e.before, e.after];
-}
-
-// The listing entry of five numbers.
-fn entry_in(x: &[u32; 5]) -> Entry
-    ensures { λ r. ⌜ r ≡ entryIn (now (x .entry)) ⌝ }
-{
-    Entry {
-        kind: x[0],
-        event: x[1],
-        map: x[2],
-        before: x[3],
-        after: x[4],
-    }
-}
-
-// The table of a change.
-fn put_table(x: Change, table: &mut u64, columns: &mut usize)
-    ensures table { λ _. ⌜ now (table .exit) ≡ x .table ⌝ }
-    ensures columns { λ _. ⌜ now (columns .exit) ≡ x .columns ⌝ }
-{
-    *table = x.table;
-    *columns = x.columns;
+    numbers::put_checked(binlog::list(log, out), place, events, changes)
 }
 
 // Change k, from 0: its listing entry, its table's id and its column count, and the place 0. Refused, only the place is written.
@@ -130,20 +74,11 @@ pub extern "C" fn tegmeadow_change(
         }
         Changed::Change(x) => {
             *place = 0;
-            put_entry(entry, x.entry);
-            put_table(x, table, columns);
+            numbers::put_entry(entry, x.entry);
+            numbers::put_table(x, table, columns);
             0
         }
     }
-}
-
-// A part of the log.
-fn put_part(p: Part, place: &mut usize, length: &mut usize)
-    ensures place { λ _. ⌜ now (place .exit) ≡ p .place ⌝ }
-    ensures length { λ _. ⌜ now (length .exit) ≡ p .size ⌝ }
-{
-    *place = p.place;
-    *length = p.size;
 }
 
 // Where the name of change k's database stands.
@@ -157,7 +92,7 @@ pub extern "C" fn tegmeadow_database_name(
     ensures place { λ _. ⌜ now (place .exit) ≡ databaseOf k (judge (now (log .entry))) .place ⌝ }
     ensures length { λ _. ⌜ now (length .exit) ≡ databaseOf k (judge (now (log .entry))) .size ⌝ }
 {
-    put_part(binlog::database_part(log, k), place, length)
+    numbers::put_part(binlog::database_part(log, k), place, length)
 }
 
 // Where the name of change k's table stands.
@@ -166,40 +101,7 @@ pub extern "C" fn tegmeadow_table_name(log: &[u8], k: usize, place: &mut usize, 
     ensures place { λ _. ⌜ now (place .exit) ≡ tableOf k (judge (now (log .entry))) .place ⌝ }
     ensures length { λ _. ⌜ now (length .exit) ≡ tableOf k (judge (now (log .entry))) .size ⌝ }
 {
-    put_part(binlog::table_part(log, k), place, length)
-}
-
-// A cell: eight numbers for a value that is there, none for a refused one.
-fn put_cell(x: Valued, cell: &mut [u64; 8]) -> u32
-    ensures { λ r. ⌜ ((p : Part) (y : Answers.Valued) → x ≡ valuedAnswer p y → (r ≡ valuedNumber y) × (now (cell .exit) ≡ cellAfter (now (cell .entry)) p y)) ⌝ }
-{
-    match x {
-        Valued::Refused(n, _) => n as u32,
-        Valued::Absent => {
-            cells::put_bare(cell, 0, 0);
-            0
-        }
-        Valued::Null => {
-            cells::put_bare(cell, 0, 256);
-            0
-        }
-        Valued::Stored(code, v) => {
-            cells::put_value(cell, 0, code, v);
-            0
-        }
-    }
-}
-
-// The place of a refused value, else 0.
-fn place_of(x: Valued) -> usize
-    ensures { λ r. ⌜ ((p : Part) (y : Answers.Valued) → x ≡ valuedAnswer p y → r ≡ valuedPlace y) ⌝ }
-{
-    match x {
-        Valued::Refused(_, p) => p,
-        Valued::Absent => 0,
-        Valued::Null => 0,
-        Valued::Stored(_, _) => 0,
-    }
+    numbers::put_part(binlog::table_part(log, k), place, length)
 }
 
 // Value of change k, side (0 before, 1 after) and column from 0, as eight numbers: 0 for absent, 256 for null, else the type byte and the value's
@@ -218,8 +120,8 @@ pub extern "C" fn tegmeadow_value(
     ensures cell { λ _. ⌜ now (cell .exit) ≡ cellAfter (now (cell .entry)) (textOf k side column (judge (now (log .entry)))) (valueOf k side column (judge (now (log .entry)))) ⌝ }
 {
     let x = binlog::value(log, k, side, column);
-    *place = place_of(x);
-    put_cell(x, cell)
+    *place = numbers::place_of(x);
+    numbers::put_cell(x, cell)
 }
 
 // Where the text or blob of that value stands.
@@ -235,7 +137,7 @@ pub extern "C" fn tegmeadow_text(
     ensures place { λ _. ⌜ now (place .exit) ≡ textOf k side column (judge (now (log .entry))) .place ⌝ }
     ensures length { λ _. ⌜ now (length .exit) ≡ textOf k side column (judge (now (log .entry))) .size ⌝ }
 {
-    put_part(binlog::text_part(log, k, side, column), place, length)
+    numbers::put_part(binlog::text_part(log, k, side, column), place, length)
 }
 
 // The change at a listing entry: its table's id and its column count; the number is 0 or 19. Refused, nothing is written.
@@ -250,10 +152,10 @@ pub extern "C" fn tegmeadow_change_at(
     ensures table { λ _. ⌜ now (table .exit) ≡ tableAfter (now (table .entry)) (changeAt (now (log .entry)) (entryIn (now (entry .entry)))) ⌝ }
     ensures columns { λ _. ⌜ now (columns .exit) ≡ columnsAfter (now (columns .entry)) (changeAt (now (log .entry)) (entryIn (now (entry .entry)))) ⌝ }
 {
-    match entry::change_at(log, entry_in(entry)) {
+    match entry::change_at(log, numbers::entry_in(entry)) {
         Changed::Refused(n, _) => n as u32,
         Changed::Change(x) => {
-            put_table(x, table, columns);
+            numbers::put_table(x, table, columns);
             0
         }
     }
@@ -270,7 +172,11 @@ pub extern "C" fn tegmeadow_database_name_at(
     ensures place { λ _. ⌜ now (place .exit) ≡ databaseAt (now (log .entry)) (entryIn (now (entry .entry))) .place ⌝ }
     ensures length { λ _. ⌜ now (length .exit) ≡ databaseAt (now (log .entry)) (entryIn (now (entry .entry))) .size ⌝ }
 {
-    put_part(entry::database_part_at(log, entry_in(entry)), place, length)
+    numbers::put_part(
+        entry::database_part_at(log, numbers::entry_in(entry)),
+        place,
+        length,
+    )
 }
 
 // Where the name of the change's table stands, at a listing entry.
@@ -284,7 +190,11 @@ pub extern "C" fn tegmeadow_table_name_at(
     ensures place { λ _. ⌜ now (place .exit) ≡ tableAt (now (log .entry)) (entryIn (now (entry .entry))) .place ⌝ }
     ensures length { λ _. ⌜ now (length .exit) ≡ tableAt (now (log .entry)) (entryIn (now (entry .entry))) .size ⌝ }
 {
-    put_part(entry::table_part_at(log, entry_in(entry)), place, length)
+    numbers::put_part(
+        entry::table_part_at(log, numbers::entry_in(entry)),
+        place,
+        length,
+    )
 }
 
 // The value of a column on a side of a listing entry, as eight numbers; the number is 0 or 19. Refused, nothing is written.
@@ -299,7 +209,10 @@ pub extern "C" fn tegmeadow_value_at(
     ensures answer { λ r. ⌜ r ≡ valuedNumber (valueAt (now (log .entry)) (entryIn (now (entry .entry))) side column) ⌝ }
     ensures cell { λ _. ⌜ now (cell .exit) ≡ cellAfter (now (cell .entry)) (textAt (now (log .entry)) (entryIn (now (entry .entry))) side column) (valueAt (now (log .entry)) (entryIn (now (entry .entry))) side column) ⌝ }
 {
-    put_cell(entry::value_at(log, entry_in(entry), side, column), cell)
+    numbers::put_cell(
+        entry::value_at(log, numbers::entry_in(entry), side, column),
+        cell,
+    )
 }
 
 // Where the text or blob of that value stands.
@@ -315,8 +228,8 @@ pub extern "C" fn tegmeadow_text_at(
     ensures place { λ _. ⌜ now (place .exit) ≡ textAt (now (log .entry)) (entryIn (now (entry .entry))) side column .place ⌝ }
     ensures length { λ _. ⌜ now (length .exit) ≡ textAt (now (log .entry)) (entryIn (now (entry .entry))) side column .size ⌝ }
 {
-    put_part(
-        entry::text_part_at(log, entry_in(entry), side, column),
+    numbers::put_part(
+        entry::text_part_at(log, numbers::entry_in(entry), side, column),
         place,
         length,
     )

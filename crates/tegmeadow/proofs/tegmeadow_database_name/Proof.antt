@@ -6,7 +6,7 @@ use Rattle.tegmeadow.proofs.tegmeadow_database_name.Tie as tie
 use Rattle.tegmeadow.proofs.tegmeadow_database_name.Reads as reads
 use Rattle.tegmeadow.proofs.tegmeadow_database_name.Lts as lts
 use Rattle.binlog.proofs.database_part.Reads as database-part-reads
-use Rattle.tegmeadow.proofs.put_part.Reads as put-part-reads
+use Rattle.numbers.proofs.put_part.Reads as put-part-reads
 
 database-part-requires : tie.Need-database-part-requires
 database-part-requires c κs = search needs

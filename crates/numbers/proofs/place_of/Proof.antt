@@ -1,0 +1,35 @@
+use Rattle.numbers.proofs.Told.{valued-told}
+use borrow.Author.Needs.{needs}
+use Rattle.numbers.proofs.place_of.Statement.{statement}
+use Rattle.numbers.proofs.place_of.Tie as tie
+use Rattle.numbers.proofs.place_of.Reads as reads
+use Rattle.numbers.proofs.place_of.Lts as lts
+
+enum-known-x : tie.Need-enum-known-x
+enum-known-x c = search needs
+
+enum-told : tie.Need-enum-told
+enum-told c = search needs
+
+enum-told-2 : tie.Need-enum-told-2
+enum-told-2 c = search needs
+
+enum-told-3 : tie.Need-enum-told-3
+enum-told-3 c = search needs
+
+returns : tie.Need-returns
+returns c = λ p y i. valued-told _ _ (c .before .x .given .1) p y i .1
+
+returns-2 : tie.Need-returns-2
+returns-2 c = λ p y i. valued-told _ _ (c .enum-told .given .1) p y i .1
+
+returns-3 : tie.Need-returns-3
+returns-3 c = λ p y i. valued-told _ _ (c .enum-told2 .given .1) p y i .1
+
+returns-4 : tie.Need-returns-4
+returns-4 c = λ p y i. valued-told _ _ (c .enum-told3 .given .1) p y i .1
+
+pub place-of-spec : {M : Type 1} → statement M
+place-of-spec =
+    tie.close
+    (tie.spec enum-known-x enum-told enum-told-2 enum-told-3 returns returns-2 returns-3 returns-4)

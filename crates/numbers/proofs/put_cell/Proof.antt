@@ -1,0 +1,62 @@
+use mathlib.Core.Path.{_∙_}
+use Rattle.numbers.proofs.Told.{valued-told, filled}
+use borrow.Author.Needs.{needs}
+use Rattle.numbers.proofs.put_cell.Statement.{statement}
+use Rattle.numbers.proofs.put_cell.Tie as tie
+use Rattle.numbers.proofs.put_cell.Reads as reads
+use Rattle.numbers.proofs.put_cell.Lts as lts
+use Rattle.cells.proofs.put_bare.Reads as put-bare-reads
+use Rattle.cells.proofs.put_value.Reads as put-value-reads
+
+enum-known-x : tie.Need-enum-known-x
+enum-known-x c = search needs
+
+cast-result : tie.Need-cast-result
+cast-result c = search needs
+
+enum-told : tie.Need-enum-told
+enum-told c = search needs
+
+put-bare-requires : tie.Need-put-bare-requires
+put-bare-requires c κs = search needs
+
+enum-told-2 : tie.Need-enum-told-2
+enum-told-2 c = search needs
+
+put-bare-requires-2 : tie.Need-put-bare-requires-2
+put-bare-requires-2 c κs = search needs
+
+enum-known-x-2 : tie.Need-enum-known-x-2
+enum-known-x-2 c = search needs
+
+put-value-requires : tie.Need-put-value-requires
+put-value-requires c κs = search needs
+
+returns : tie.Need-returns
+returns c = λ p y i. let t = valued-told _ _ (c .before .x .given .1) p y i in (t .0, t .2 _)
+
+returns-2 : tie.Need-returns-2
+returns-2 c = λ p y i. let t = valued-told _ _ (c .before .before .enum-told .given .1) p y i in (t .0, c .put-bare .ensures ∙ filled (c .before .before .before .before .args .cell .now) _ (search needs) ∙ t .2 _)
+
+returns-3 : tie.Need-returns-3
+returns-3 c = λ p y i. let t = valued-told _ _ (c .before .before .enum-told2 .given .1) p y i in (t .0, c .put-bare2 .ensures ∙ filled (c .before .before .before .before .args .cell .now) _ (search needs) ∙ t .2 _)
+
+returns-4 : tie.Need-returns-4
+returns-4 c = λ p y i. let t = valued-told _ _ (c .before .before .before .x2 .given .1) p y i in (t .0, t .2 _ _ (λ x e. c .put-value .ensures p x e ∙ filled (c .before .before .before .before .before .args .cell .now) _ (search needs)))
+
+pub put-cell-spec : {M : Type 1} → statement M
+put-cell-spec =
+    tie.close
+    (tie.spec
+    enum-known-x
+    cast-result
+    enum-told
+    put-bare-requires
+    enum-told-2
+    put-bare-requires-2
+    enum-known-x-2
+    put-value-requires
+    returns
+    returns-2
+    returns-3
+    returns-4)
