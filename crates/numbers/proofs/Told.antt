@@ -15,7 +15,7 @@ use Rattle.entry.specs.Answer.{changedAnswer, valuedAnswer}
 use Rattle.format.specs.Values as Values
 use Rattle.format.specs.declared.Part.{Part}
 use Rattle.value.specs.Value.{valueAnswer}
-use Rattle.cells.specs.Cells.{valueNumbers, cellNumbers}
+use Rattle.cell.specs.Cell.{valueNumbers, cellNumbers}
 use Rattle.numbers.specs.Answer.{checkedNumber, checkedPlace, checkedEvents, checkedChanges, counted, changedNumber, changedPlace, entryAfter, tableAfter, columnsAfter, valuedNumber, valuedPlace, cellAfter}
 
 -- ---- Check and Listing

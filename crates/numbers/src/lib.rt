@@ -5,7 +5,6 @@ ghost use Rattle.format.specs.Answers.{fields};
 ghost use Rattle.format.specs.declared.Part.{Part};
 ghost use Rattle.walk.specs.State.{checkedAnswer};
 ghost use Rattle.entry.specs.Answer.{valuedAnswer};
-ghost use Rattle.cells.specs.Cells.{after};
 ghost use Rattle.numbers.specs.Answer.{checkedNumber, checkedPlace, checkedEvents, checkedChanges, valuedNumber, valuedPlace, cellAfter, entryIn};
 use entry::Change;
 use entry::Valued;
@@ -78,15 +77,15 @@ pub fn put_cell(x: Valued, cell: &mut [u64; 8]) -> u32
     match x {
         Valued::Refused(n, _) => n as u32,
         Valued::Absent => {
-            cells::put_bare(cell, 0, 0);
+            cell::put_bare(cell, 0, 0);
             0
         }
         Valued::Null => {
-            cells::put_bare(cell, 0, 256);
+            cell::put_bare(cell, 0, 256);
             0
         }
         Valued::Stored(code, v) => {
-            cells::put_value(cell, 0, code, v);
+            cell::put_value(cell, 0, code, v);
             0
         }
     }
