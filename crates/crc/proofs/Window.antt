@@ -14,10 +14,11 @@ use lib.Seq.{drop-cons, drop-drop, drop-set-lt, getD-drop, take-add, take-all, t
 use Rattle.format.specs.Bytes.{num, fieldAt}
 use Rattle.wire.proofs.Laws.{Bytes, bytes-take, field-below, field-more}
 use Rattle.format.specs.Crc.{bitStep, bitSteps, crcFrom}
-use Rattle.crc.specs.Words.{mix, folds, owed, fallen, register, Filled}
-use Rattle.crc.proofs.Laws.{steps-xor, steps-shifted, steps-add}
-use Rattle.crc.proofs.Carry.{words-are, flush-by, multiple-by, turn-by}
-use Rattle.crc.proofs.Start.{crc-word, le-split}
+use Rattle.words.specs.Words.{mix}
+use Rattle.crc.specs.Window.{folds, owed, fallen, register, Filled}
+use Rattle.words.proofs.Laws.{steps-xor, steps-shifted, steps-add}
+use Rattle.words.proofs.Carry.{words-are, flush-by, multiple-by, turn-by}
+use Rattle.words.proofs.Start.{crc-word, le-split}
 
 -- ---- the multiple: its terms one after the other, as registers of 32 bits
 

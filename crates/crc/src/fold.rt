@@ -1,11 +1,12 @@
 // Many bytes: each is carried into the bytes 281, 285, 344 and 515 after it, by a multiple of the polynomial whose terms are whole bytes. A
 // window holds the last of them as they are with all that fell on them. A compiler takes many at a time, since none falls on one near to it.
 ghost use mathlib.Core.Path.{_≡_};
-ghost use Prim.Native.Nat.{_+_, _-_, _*_, _%_, _^_, _≤_, _<_};
+ghost use Prim.Native.Nat.{_+_, _-_, _%_, _^_, _≤_, _<_};
 ghost use lib.Bits.{bitXor};
 ghost use lib.ListN.{length, drop};
 ghost use Rattle.format.specs.Bytes.{num, fieldAt};
-ghost use Rattle.crc.specs.Words.{mix, folds, register, Filled};
+ghost use Rattle.words.specs.Words.{mix};
+ghost use Rattle.crc.specs.Window.{folds, register, Filled};
 
 // Takes the 256 bytes from p into the window, after the 515 from q.
 pub fn take(w: &mut [u8; 3136], q: usize, s: &[u8], p: usize)

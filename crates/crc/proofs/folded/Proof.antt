@@ -6,14 +6,15 @@ use lib.ListN.{length, drop}
 use lib.Seq.{length-take-le}
 use Rattle.format.specs.Bytes.{num}
 use Rattle.format.specs.Crc.{bitSteps, crcFrom}
-use Rattle.crc.specs.Words.{mix, folds, register, Filled}
+use Rattle.words.specs.Words.{mix}
+use Rattle.crc.specs.Window.{folds, register, Filled}
 use Rattle.crc.proofs.Window.{bytes-of, filled-none, small, fold-start, first, begun, first-filled, fold-end}
 use borrow.Author.Needs.{needs}
 use Rattle.crc.proofs.folded.Statement.{statement}
 use Rattle.crc.proofs.folded.Tie as tie
 use Rattle.crc.proofs.folded.Reads as reads
 use Rattle.crc.proofs.folded.Lts as lts
-use Rattle.crc.proofs.after.Reads as after-reads
+use Rattle.words.proofs.after.Reads as after-reads
 use Rattle.crc.proofs.fold.clear.Reads as clear-reads
 use Rattle.crc.proofs.fold.pay.Reads as pay-reads
 use Rattle.crc.proofs.fold.room.Reads as room-reads

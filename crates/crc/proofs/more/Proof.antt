@@ -1,11 +1,11 @@
 use Prim.Native.Nat.{_^_, _<_}
-use Rattle.crc.proofs.Start.{crc-fits}
+use Rattle.words.proofs.Start.{crc-fits}
 use borrow.Author.Needs.{needs}
 use Rattle.crc.proofs.more.Statement.{statement}
 use Rattle.crc.proofs.more.Tie as tie
 use Rattle.crc.proofs.more.Reads as reads
 use Rattle.crc.proofs.more.Lts as lts
-use Rattle.crc.proofs.after.Reads as after-reads
+use Rattle.words.proofs.after.Reads as after-reads
 use Rattle.crc.proofs.folded.Reads as folded-reads
 
 -- src/lib.rt:306:16

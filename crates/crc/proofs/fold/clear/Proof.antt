@@ -3,7 +3,7 @@ use Prim.Native.Nat.{_+_, _-_, _≤_}
 use native.Mathlib.Omega.{arith}
 use lib.ListN.{length}
 use Rattle.format.specs.Bytes.{fieldAt}
-use Rattle.crc.specs.Words.{Filled}
+use Rattle.crc.specs.Window.{Filled}
 use Rattle.crc.proofs.Window.{field-all, filled-set, clear-turn}
 use lib.Dec.{lit<}
 use borrow.Author.Needs.{needs}

@@ -4,7 +4,7 @@ use native.Mathlib.Omega.{arith}
 use lib.Bits.{bitXor}
 use lib.ListN.{length, getD}
 use Rattle.format.specs.Bytes.{fieldAt}
-use Rattle.crc.specs.Words.{fallen, Filled}
+use Rattle.crc.specs.Window.{fallen, Filled}
 use Rattle.crc.proofs.Window.{bytes-of, filled-set, taken-below, Left, pay-turn, pay-start, pay-end}
 use borrow.Author.Needs.{needs}
 use Rattle.crc.proofs.fold.pay.Statement.{statement}

@@ -3,7 +3,7 @@ use Prim.Native.Nat.{_+_, _-_, _≤_}
 use native.Mathlib.Omega.{arith}
 use lib.ListN.{length, getD, drop}
 use Rattle.format.specs.Bytes.{fieldAt}
-use Rattle.crc.specs.Words.{Filled}
+use Rattle.crc.specs.Window.{Filled}
 use Rattle.crc.proofs.Window.{filled-set, move-turn}
 use borrow.Author.Needs.{needs}
 use Rattle.crc.proofs.fold.shift.Statement.{statement}

@@ -4,7 +4,7 @@ use native.Mathlib.Nat.{add-zero}
 use native.Mathlib.Omega.{arith}
 use lib.Bits.{bitXor}
 use lib.ListN.{length, getD}
-use Rattle.crc.specs.Words.{fallen, register, Filled}
+use Rattle.crc.specs.Window.{fallen, register, Filled}
 use Rattle.crc.proofs.Window.{bytes-of, filled-set, taken-below, fold-turn}
 use borrow.Author.Needs.{needs}
 use Rattle.crc.proofs.fold.take.Statement.{statement}
