@@ -1,6 +1,6 @@
 #!/usr/bin/env python3
 """rules.py: every name that docs/RULES.md points to is there: functions (`crate::name`), must-fail edits (E: crate/label), laws (L:
-Module.name of crates/format/proofs), test logs (T: name of crates/evidence/data/made). Prints what is missing; exit status 1 if any."""
+Module.name of the proofs of crates/format and crates/demands), test logs (T: name of crates/evidence/data/made). Prints what is missing; exit status 1 if any."""
 import fnmatch, glob, os, re, sys
 
 ROOT = os.path.join(os.path.dirname(os.path.abspath(__file__)), "..")
@@ -22,8 +22,8 @@ def declared(crate, name):
 
 
 def law_there(module, name):
-    path = os.path.join(ROOT, "crates/format/proofs", module + ".antt")
-    return os.path.exists(path) and (not name or re.search(rf"^\s*(?:pub )?{re.escape(name)} ", open(path, encoding="utf-8").read(), re.M))
+    text = "".join(text_of(f"crates/{crate}/proofs/{module}.antt") for crate in ("format", "demands"))
+    return text and (not name or re.search(rf"^\s*(?:pub )?{re.escape(name)} ", text, re.M))
 
 
 def functions(cell):

@@ -25,4 +25,3 @@ pub mod ValueAnswers
 pub mod ValueLaws
 pub mod VersionLaws
 pub mod Witness
-pub mod Promises

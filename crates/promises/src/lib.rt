@@ -1,0 +1,1 @@
+// What is promised of the questions' own answers: theorems alone, in proofs/Promises.antt.
