@@ -12,7 +12,7 @@ def text_of(pattern):
 
 CRATES = sorted(os.listdir(os.path.join(ROOT, "crates")))
 CODE = {crate: text_of(f"crates/{crate}/src/*.rt") for crate in CRATES}
-EDITS = {crate: [os.path.basename(p)[:-5] for p in glob.glob(os.path.join(ROOT, f"crates/{crate}/must-fail/*.edit"))] for crate in CRATES}
+EDITS = {crate: [os.path.basename(p)[:-5] for p in glob.glob(os.path.join(ROOT, f"crates/{crate}/must-fail/**/*.edit"), recursive=True)] for crate in CRATES}
 LOGS = [os.path.basename(p)[:-4] for p in glob.glob(os.path.join(ROOT, "crates/evidence/data/made/*.log"))]
 
 
