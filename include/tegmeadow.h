@@ -6,8 +6,8 @@
  * handed in.  Every call ends, uses no heap, keeps nothing, writes only
  * through the pointers that it is given, and may be made from any thread.
  * No pointer may be null; where a length is 0 the pointer before it is not
- * followed.  What is lent to be written must not overlap what is lent to be
- * read.
+ * followed.  What is lent to be written must overlap neither what is lent to
+ * be read nor anything else that is lent to be written.
  *
  * Places are counted in bytes from the log's first byte.  A part of the log
  * (a name, a text) comes back as its place and its length; a part that is
@@ -43,7 +43,8 @@
  *
  * Answers: 0 (TEGMEADOW_ACCEPTED) or the number of a refusal, below.  A
  * refused call writes the refusal's place through `place`, where it has
- * one, and 0 to the counts of check and list; nothing else.
+ * one, 0 to the counts of check and list, and the part that is not there
+ * for a name or a text; nothing else.
  */
 #ifndef TEGMEADOW_H
 #define TEGMEADOW_H
@@ -114,11 +115,11 @@ uint32_t tegmeadow_change(const uint8_t *log, size_t log_len, size_t k,
                           size_t *place, uint32_t entry[5], uint64_t *table,
                           size_t *columns);
 
-/* Where the name of change `k`'s database stands; nothing where refused. */
+/* Where the name of change `k`'s database stands; 0 and 0 where refused. */
 void tegmeadow_database_name(const uint8_t *log, size_t log_len, size_t k,
                              size_t *place, size_t *length);
 
-/* Where the name of change `k`'s table stands; nothing where refused. */
+/* Where the name of change `k`'s table stands; 0 and 0 where refused. */
 void tegmeadow_table_name(const uint8_t *log, size_t log_len, size_t k,
                           size_t *place, size_t *length);
 

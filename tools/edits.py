@@ -1,7 +1,7 @@
 #!/usr/bin/env python3
 """edits.py [CRATE..]: tries the must-fail edits that stand beside the gate, crates/NAME/must-fail/more/*.edit, in a copy of the repository, where
-they take the place of the gate's own. The gate has those that the scope paper names and two or more for each public contract; these are of
-inner functions. Ends as `rt must-fail` does: exit status 0 where each is refused."""
+they take the place of the gate's own. The gate has those that the scope paper names and two or more for each public contract; these are
+further ones. Ends as `rt must-fail` does: exit status 0 where each is refused."""
 import glob, os, shutil, subprocess, sys, tempfile
 
 ROOT = os.path.realpath(os.path.join(os.path.dirname(os.path.abspath(__file__)), ".."))
