@@ -1,5 +1,5 @@
 -- What the library's answers tell, in the words of the code: x is the answer that the code has, y the definition's.
-use mathlib.Core.Path.{_≡_, refl, sym, ap, _∙_, subst}
+use mathlib.Core.Path.{_≡_, refl, sym, ap, _∙_, subst, subst⁻¹}
 use Prim.Native.Nat.{ℕ, _+_}
 use mathlib.Core.List.{List, [], _∷_, _++_, append-nil}
 use native.Mathlib.Nat.{le-of-eq}
@@ -12,11 +12,10 @@ use Rattle.walk.specs.Listing.{listedAnswer}
 use Rattle.entry.specs.declared.Changed.{Changed}
 use Rattle.entry.specs.declared.Valued.{Valued}
 use Rattle.entry.specs.Answer.{changedAnswer, valuedAnswer}
-use Rattle.format.specs.Values as Values
 use Rattle.format.specs.declared.Part.{Part}
-use Rattle.value.specs.Value.{valueAnswer}
-use Rattle.cell.specs.Cell.{valueNumbers, cellNumbers}
-use Rattle.numbers.specs.Answer.{checkedNumber, checkedPlace, checkedEvents, checkedChanges, counted, changedNumber, changedPlace, entryAfter, tableAfter, columnsAfter, valuedNumber, valuedPlace, cellAfter}
+use Rattle.cell.specs.Cell.{cellNumbers}
+use Rattle.cell.proofs.Putting.{numbers-are}
+use Rattle.numbers.specs.Answer.{checkedNumber, checkedPlace, checkedEvents, checkedChanges, counted, changedNumber, changedPlace, entryAfter, tableAfter, columnsAfter, valuedNumber, valuedPlace, cellAfter, numberOf, placeOf, cellOf}
 
 -- ---- Check and Listing
 
@@ -57,23 +56,19 @@ changed-told x x' e y i = subst (λ (z : Changed). ChangedTold z y) (sym i ∙ e
 
 -- ---- Value
 
--- p is the part of a text; a stored value's numbers are those of any value of the format that it stands for
-abbrev pub ValuedTold : Part → Valued → Answers.Valued → Type 0
-ValuedTold p (Valued.Refused n q) y = (n ≡ valuedNumber y) × (q ≡ valuedPlace y) × ((old : List ℕ) → old ≡ cellAfter old p y)
-ValuedTold p Valued.Absent y = (0 ≡ valuedNumber y) × (0 ≡ valuedPlace y) × ((old : List ℕ) → (0 ∷ 0 ∷ 0 ∷ 0 ∷ 0 ∷ 0 ∷ 0 ∷ 0 ∷ []) ≡ cellAfter old p y)
-ValuedTold p Valued.Null y = (0 ≡ valuedNumber y) × (0 ≡ valuedPlace y) × ((old : List ℕ) → (256 ∷ 0 ∷ 0 ∷ 0 ∷ 0 ∷ 0 ∷ 0 ∷ 0 ∷ []) ≡ cellAfter old p y)
-ValuedTold p (Valued.Stored t v) y = (0 ≡ valuedNumber y) × (0 ≡ valuedPlace y)
-    × ((old new : List ℕ) → ((x : Values.Value) → v ≡ valueAnswer p x → new ≡ t ∷ valueNumbers p x) → new ≡ cellAfter old p y)
-
-valued-is : (p : Part) (y : Answers.Valued) → ValuedTold p (valuedAnswer p y) y
+valued-is : (p : Part) (y : Answers.Valued)
+    → (numberOf (valuedAnswer p y) ≡ valuedNumber y) × (placeOf (valuedAnswer p y) ≡ valuedPlace y) × ((old : List ℕ) → cellOf old (valuedAnswer p y) ≡ cellAfter old p y)
 unfolding valuedAnswer valuedNumber valuedPlace cellAfter cellNumbers
 valued-is p (Answers.Valued.refused n q) = (refl, refl, (λ old. refl))
 valued-is p (Answers.Valued.cell Answers.Cell.absent) = (refl, refl, (λ old. refl))
 valued-is p (Answers.Valued.cell Answers.Cell.null) = (refl, refl, (λ old. refl))
-valued-is p (Answers.Valued.cell (Answers.Cell.stored t v)) = (refl, refl, (λ old new f. f v refl))
+valued-is p (Answers.Valued.cell (Answers.Cell.stored t v)) = (refl, refl, (λ old. ap (λ (ns : List ℕ). t ∷ ns) (numbers-are p v)))
 
-pub valued-told : (x x' : Valued) → x ≡ x' → (p : Part) (y : Answers.Valued) → x ≡ valuedAnswer p y → ValuedTold p x' y
-valued-told x x' e p y i = subst (λ (z : Valued). ValuedTold p z y) (sym i ∙ e) (valued-is p y)
+-- what is returned and written for the code's answer is what the definition's asks
+pub valued-told : (x : Valued) (p : Part) (y : Answers.Valued) → x ≡ valuedAnswer p y
+    → (numberOf x ≡ valuedNumber y) × (placeOf x ≡ valuedPlace y) × ((old : List ℕ) → cellOf old x ≡ cellAfter old p y)
+valued-told x p y i =
+    subst⁻¹ (λ (z : Valued). (numberOf z ≡ valuedNumber y) × (placeOf z ≡ valuedPlace y) × ((old : List ℕ) → cellOf old z ≡ cellAfter old p y)) i (valued-is p y)
 
 -- eight numbers fill a cell
 pub filled : (old xs : List ℕ) → length old ≡ 8 → take 0 old ++ xs ++ drop (0 + 8) old ≡ xs

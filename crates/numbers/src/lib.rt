@@ -4,8 +4,7 @@ ghost use Rattle.format.specs.Answers as Answers;
 ghost use Rattle.format.specs.Answers.{fields};
 ghost use Rattle.format.specs.declared.Part.{Part};
 ghost use Rattle.walk.specs.State.{checkedAnswer};
-ghost use Rattle.entry.specs.Answer.{valuedAnswer};
-ghost use Rattle.numbers.specs.Answer.{checkedNumber, checkedPlace, checkedEvents, checkedChanges, valuedNumber, valuedPlace, cellAfter, entryIn};
+ghost use Rattle.numbers.specs.Answer.{checkedNumber, checkedPlace, checkedEvents, checkedChanges, numberOf, placeOf, cellOf, entryIn};
 use entry::Change;
 use entry::Valued;
 use events::Checked;
@@ -72,7 +71,7 @@ pub fn put_part(p: Part, place: &mut usize, length: &mut usize)
 
 // A cell: eight numbers for a value that is there, none for a refused one.
 pub fn put_cell(x: Valued, cell: &mut [u64; 8]) -> u32
-    ensures { λ r. ⌜ ((p : Part) (y : Answers.Valued) → x ≡ valuedAnswer p y → (r ≡ valuedNumber y) × (now (cell .exit) ≡ cellAfter (now (cell .entry)) p y)) ⌝ }
+    ensures { λ r. ⌜ (r ≡ numberOf x) × (now (cell .exit) ≡ cellOf (now (cell .entry)) x) ⌝ }
 {
     match x {
         Valued::Refused(n, _) => n as u32,
@@ -93,7 +92,7 @@ pub fn put_cell(x: Valued, cell: &mut [u64; 8]) -> u32
 
 // The place of a refused value, else 0.
 pub fn place_of(x: Valued) -> usize
-    ensures { λ r. ⌜ ((p : Part) (y : Answers.Valued) → x ≡ valuedAnswer p y → r ≡ valuedPlace y) ⌝ }
+    ensures { λ r. ⌜ r ≡ placeOf x ⌝ }
 {
     match x {
         Valued::Refused(_, p) => p,

@@ -1,4 +1,5 @@
-use Rattle.numbers.proofs.Told.{valued-told}
+use mathlib.Core.Path.{sym, ap}
+use Rattle.numbers.specs.Answer.{placeOf}
 use borrow.Author.Needs.{needs}
 use Rattle.numbers.proofs.place_of.Statement.{statement}
 use Rattle.numbers.proofs.place_of.Tie as tie
@@ -18,16 +19,16 @@ enum-told-3 : tie.Need-enum-told-3
 enum-told-3 c = search needs
 
 returns : tie.Need-returns
-returns c = λ p y i. valued-told _ _ (c .before .x .given .1) p y i .1
+returns c = sym (ap placeOf (c .before .x .given .1))
 
 returns-2 : tie.Need-returns-2
-returns-2 c = λ p y i. valued-told _ _ (c .enum-told .given .1) p y i .1
+returns-2 c = sym (ap placeOf (c .enum-told .given .1))
 
 returns-3 : tie.Need-returns-3
-returns-3 c = λ p y i. valued-told _ _ (c .enum-told2 .given .1) p y i .1
+returns-3 c = sym (ap placeOf (c .enum-told2 .given .1))
 
 returns-4 : tie.Need-returns-4
-returns-4 c = λ p y i. valued-told _ _ (c .enum-told3 .given .1) p y i .1
+returns-4 c = sym (ap placeOf (c .enum-told3 .given .1))
 
 pub place-of-spec : {M : Type 1} → statement M
 place-of-spec =

@@ -1,5 +1,6 @@
-use mathlib.Core.Path.{_∙_}
-use Rattle.numbers.proofs.Told.{valued-told, filled}
+use mathlib.Core.Path.{_∙_, sym, ap}
+use Rattle.numbers.specs.Answer.{numberOf, cellOf}
+use Rattle.numbers.proofs.Told.{filled}
 use borrow.Author.Needs.{needs}
 use Rattle.numbers.proofs.put_cell.Statement.{statement}
 use Rattle.numbers.proofs.put_cell.Tie as tie
@@ -33,16 +34,16 @@ put-value-requires : tie.Need-put-value-requires
 put-value-requires c κs = search needs
 
 returns : tie.Need-returns
-returns c = λ p y i. let t = valued-told _ _ (c .before .x .given .1) p y i in (t .0, t .2 _)
+returns c = let e = c .before .x .given .1 in (sym (ap numberOf e), sym (ap (cellOf _) e))
 
 returns-2 : tie.Need-returns-2
-returns-2 c = λ p y i. let t = valued-told _ _ (c .before .before .enum-told .given .1) p y i in (t .0, c .put-bare .ensures ∙ filled (c .before .before .before .before .args .cell .now) _ (search needs) ∙ t .2 _)
+returns-2 c = let e = c .before .before .enum-told .given .1 in (sym (ap numberOf e), c .put-bare .ensures ∙ filled (c .before .before .before .before .args .cell .now) _ (search needs) ∙ sym (ap (cellOf _) e))
 
 returns-3 : tie.Need-returns-3
-returns-3 c = λ p y i. let t = valued-told _ _ (c .before .before .enum-told2 .given .1) p y i in (t .0, c .put-bare2 .ensures ∙ filled (c .before .before .before .before .args .cell .now) _ (search needs) ∙ t .2 _)
+returns-3 c = let e = c .before .before .enum-told2 .given .1 in (sym (ap numberOf e), c .put-bare2 .ensures ∙ filled (c .before .before .before .before .args .cell .now) _ (search needs) ∙ sym (ap (cellOf _) e))
 
 returns-4 : tie.Need-returns-4
-returns-4 c = λ p y i. let t = valued-told _ _ (c .before .before .before .x2 .given .1) p y i in (t .0, t .2 _ _ (λ x e. c .put-value .ensures p x e ∙ filled (c .before .before .before .before .before .args .cell .now) _ (search needs)))
+returns-4 c = let e = c .before .before .before .x2 .given .1 in (sym (ap numberOf e), c .put-value .ensures ∙ filled (c .before .before .before .before .before .args .cell .now) _ (search needs) ∙ sym (ap (cellOf _) e))
 
 pub put-cell-spec : {M : Type 1} → statement M
 put-cell-spec =
