@@ -15,6 +15,13 @@ ghost use Rattle.listed.specs.Values.{listingCells};
 ghost use Rattle.cells.specs.Cells.{leading, after};
 ghost use Rattle.numbers.specs.Answer.{checkedNumber, checkedPlace, checkedEvents, checkedChanges, counted, changedNumber, changedPlace, entryAfter, tableAfter, columnsAfter, valuedNumber, valuedPlace, cellAfter, entryIn};
 use entry::Changed;
+use numbers::entry_in;
+use numbers::place_of;
+use numbers::put_cell;
+use numbers::put_checked;
+use numbers::put_entry;
+use numbers::put_part;
+use numbers::put_table;
 
 // Check: 0 for a log that is accepted, with how many events and changes it has, the place 0; else the refusal's number, its place, and counts of 0.
 #[no_mangle]
@@ -29,7 +36,7 @@ pub extern "C" fn tegmeadow_check(
     ensures events { λ _. ⌜ now (events .exit) ≡ checkedEvents (checkOf (judge (now (log .entry)))) ⌝ }
     ensures changes { λ _. ⌜ now (changes .exit) ≡ checkedChanges (checkOf (judge (now (log .entry)))) ⌝ }
 {
-    numbers::put_checked(binlog::check(log), place, events, changes)
+    put_checked(binlog::check(log), place, events, changes)
 }
 
 // Listing: answers as Check does; where the log is accepted and the buffer is long enough, it holds five numbers for each change, and what is past
@@ -48,7 +55,7 @@ pub extern "C" fn tegmeadow_list(
     ensures events { λ _. ⌜ now (events .exit) ≡ checkedEvents (counted (listOf (size (now (out .entry))) (judge (now (log .entry))))) ⌝ }
     ensures changes { λ _. ⌜ now (changes .exit) ≡ checkedChanges (counted (listOf (size (now (out .entry))) (judge (now (log .entry))))) ⌝ }
 {
-    numbers::put_checked(binlog::list(log, out), place, events, changes)
+    put_checked(binlog::list(log, out), place, events, changes)
 }
 
 // Change k, from 0: its listing entry, its table's id and its column count, and the place 0. Refused, only the place is written.
@@ -74,8 +81,8 @@ pub extern "C" fn tegmeadow_change(
         }
         Changed::Change(x) => {
             *place = 0;
-            numbers::put_entry(entry, x.entry);
-            numbers::put_table(x, table, columns);
+            put_entry(entry, x.entry);
+            put_table(x, table, columns);
             0
         }
     }
@@ -92,7 +99,7 @@ pub extern "C" fn tegmeadow_database_name(
     ensures place { λ _. ⌜ now (place .exit) ≡ databaseOf k (judge (now (log .entry))) .place ⌝ }
     ensures length { λ _. ⌜ now (length .exit) ≡ databaseOf k (judge (now (log .entry))) .size ⌝ }
 {
-    numbers::put_part(binlog::database_part(log, k), place, length)
+    put_part(binlog::database_part(log, k), place, length)
 }
 
 // Where the name of change k's table stands.
@@ -101,7 +108,7 @@ pub extern "C" fn tegmeadow_table_name(log: &[u8], k: usize, place: &mut usize, 
     ensures place { λ _. ⌜ now (place .exit) ≡ tableOf k (judge (now (log .entry))) .place ⌝ }
     ensures length { λ _. ⌜ now (length .exit) ≡ tableOf k (judge (now (log .entry))) .size ⌝ }
 {
-    numbers::put_part(binlog::table_part(log, k), place, length)
+    put_part(binlog::table_part(log, k), place, length)
 }
 
 // Value of change k, side (0 before, 1 after) and column from 0, as eight numbers: 0 for absent, 256 for null, else the type byte and the value's
@@ -120,8 +127,8 @@ pub extern "C" fn tegmeadow_value(
     ensures cell { λ _. ⌜ now (cell .exit) ≡ cellAfter (now (cell .entry)) (textOf k side column (judge (now (log .entry)))) (valueOf k side column (judge (now (log .entry)))) ⌝ }
 {
     let x = binlog::value(log, k, side, column);
-    *place = numbers::place_of(x);
-    numbers::put_cell(x, cell)
+    *place = place_of(x);
+    put_cell(x, cell)
 }
 
 // Where the text or blob of that value stands.
@@ -137,7 +144,7 @@ pub extern "C" fn tegmeadow_text(
     ensures place { λ _. ⌜ now (place .exit) ≡ textOf k side column (judge (now (log .entry))) .place ⌝ }
     ensures length { λ _. ⌜ now (length .exit) ≡ textOf k side column (judge (now (log .entry))) .size ⌝ }
 {
-    numbers::put_part(binlog::text_part(log, k, side, column), place, length)
+    put_part(binlog::text_part(log, k, side, column), place, length)
 }
 
 // The change at a listing entry: its table's id and its column count; the number is 0 or 19. Refused, nothing is written.
@@ -152,10 +159,10 @@ pub extern "C" fn tegmeadow_change_at(
     ensures table { λ _. ⌜ now (table .exit) ≡ tableAfter (now (table .entry)) (changeAt (now (log .entry)) (entryIn (now (entry .entry)))) ⌝ }
     ensures columns { λ _. ⌜ now (columns .exit) ≡ columnsAfter (now (columns .entry)) (changeAt (now (log .entry)) (entryIn (now (entry .entry)))) ⌝ }
 {
-    match entry::change_at(log, numbers::entry_in(entry)) {
+    match entry::change_at(log, entry_in(entry)) {
         Changed::Refused(n, _) => n as u32,
         Changed::Change(x) => {
-            numbers::put_table(x, table, columns);
+            put_table(x, table, columns);
             0
         }
     }
@@ -172,11 +179,7 @@ pub extern "C" fn tegmeadow_database_name_at(
     ensures place { λ _. ⌜ now (place .exit) ≡ databaseAt (now (log .entry)) (entryIn (now (entry .entry))) .place ⌝ }
     ensures length { λ _. ⌜ now (length .exit) ≡ databaseAt (now (log .entry)) (entryIn (now (entry .entry))) .size ⌝ }
 {
-    numbers::put_part(
-        entry::database_part_at(log, numbers::entry_in(entry)),
-        place,
-        length,
-    )
+    put_part(entry::database_part_at(log, entry_in(entry)), place, length)
 }
 
 // Where the name of the change's table stands, at a listing entry.
@@ -190,11 +193,7 @@ pub extern "C" fn tegmeadow_table_name_at(
     ensures place { λ _. ⌜ now (place .exit) ≡ tableAt (now (log .entry)) (entryIn (now (entry .entry))) .place ⌝ }
     ensures length { λ _. ⌜ now (length .exit) ≡ tableAt (now (log .entry)) (entryIn (now (entry .entry))) .size ⌝ }
 {
-    numbers::put_part(
-        entry::table_part_at(log, numbers::entry_in(entry)),
-        place,
-        length,
-    )
+    put_part(entry::table_part_at(log, entry_in(entry)), place, length)
 }
 
 // The value of a column on a side of a listing entry, as eight numbers; the number is 0 or 19. Refused, nothing is written.
@@ -209,10 +208,7 @@ pub extern "C" fn tegmeadow_value_at(
     ensures answer { λ r. ⌜ r ≡ valuedNumber (valueAt (now (log .entry)) (entryIn (now (entry .entry))) side column) ⌝ }
     ensures cell { λ _. ⌜ now (cell .exit) ≡ cellAfter (now (cell .entry)) (textAt (now (log .entry)) (entryIn (now (entry .entry))) side column) (valueAt (now (log .entry)) (entryIn (now (entry .entry))) side column) ⌝ }
 {
-    numbers::put_cell(
-        entry::value_at(log, numbers::entry_in(entry), side, column),
-        cell,
-    )
+    put_cell(entry::value_at(log, entry_in(entry), side, column), cell)
 }
 
 // Where the text or blob of that value stands.
@@ -228,8 +224,8 @@ pub extern "C" fn tegmeadow_text_at(
     ensures place { λ _. ⌜ now (place .exit) ≡ textAt (now (log .entry)) (entryIn (now (entry .entry))) side column .place ⌝ }
     ensures length { λ _. ⌜ now (length .exit) ≡ textAt (now (log .entry)) (entryIn (now (entry .entry))) side column .size ⌝ }
 {
-    numbers::put_part(
-        entry::text_part_at(log, numbers::entry_in(entry), side, column),
+    put_part(
+        entry::text_part_at(log, entry_in(entry), side, column),
         place,
         length,
     )
