@@ -1,1 +1,1 @@
-// What is promised of the questions' own answers: theorems alone, in proofs/Promises.antt.
+// Some of what `demands` promises, said of the functions' own answers: theorems alone, in proofs/Promises.antt.
