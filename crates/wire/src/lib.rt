@@ -3,6 +3,7 @@ ghost use mathlib.Core.Path.{_≡_};
 ghost use mathlib.Core.Bool.{cond};
 ghost use Prim.Native.Nat.{_+_, _*_, _/_, _%_, _^_, _≤_, _<_};
 ghost use lib.IntN.{pos, _-ℤ_, natAbs};
+ghost use lib.Dec.{leb};
 ghost use lib.ListN.{length};
 ghost use Rattle.format.specs.Bytes.{fieldAt, bigAt};
 ghost use Rattle.format.specs.Columns.{bit, bits, count, bitBytes};
@@ -54,19 +55,23 @@ pub fn word(s: &[u8], at: usize) -> u64
     (d * 65536 + c) * 4294967296 + (b * 65536 + a)
 }
 
-// The n bytes at one place are those at another.
+// The n bytes at one place are those at another. The last eight are compared at once, some of them again.
 pub fn same_bytes(s: &[u8], a: usize, b: usize, n: usize) -> bool
     requires { ⌜ (a + n ≤ length (now s)) × (b + n ≤ length (now s)) ⌝ }
     ensures { λ r. ⌜ SameIs (now (s .entry)) a b n r ⌝ }
 {
+    if n < 8 {
+        return number(s, a, n) == number(s, b, n);
+    }
+    let last = n - 8;
     let mut i: usize = 0;
-    while 8 <= n - i {
+    while i < last {
         if word(s, a + i) != word(s, b + i) {
             return false;
         }
         i += 8;
     }
-    number(s, a + i, n - i) == number(s, b + i, n - i)
+    word(s, a + last) == word(s, b + last)
 }
 
 // The number in n bytes at a place, the highest first (01, Columns: 17, 18, 19 are big-endian).
@@ -173,6 +178,22 @@ pub fn count_bits(s: &[u8], n: usize) -> usize
         i += 1;
     }
     k
+}
+
+// One of the first n bits is set.
+pub fn any_bit(s: &[u8], n: usize) -> bool
+    requires { ⌜ (n ≤ 512) × (bitBytes n ≤ length (now s)) ⌝ }
+    ensures { λ r. ⌜ r ≡ leb 1 (count (bits n (now (s .entry)))) ⌝ }
+{
+    let mut i: usize = 0;
+    while i < n {
+        let set = bit_at(s, i);
+        if set {
+            return true;
+        }
+        i += 1;
+    }
+    false
 }
 
 // The n bits of a number from a bit on, counted from the bottom.
