@@ -84,20 +84,32 @@ not-same s a b i k n h ha hb f e =
 
 -- ---- in the words of the code
 
-module _ (s : List ℕ) (w : Bytes s) (a b n : ℕ) (ha : a + n ≤ length s) (hb : b + n ≤ length s) (i : ℕ) (hi : i ≤ n) where
-  module _ (h : 8 ≤ n - i) (x y : ℕ) (xi : x ≡ fieldAt s (a + i) 8) (yi : y ≡ fieldAt s (b + i) 8) where
-    pub s-other : (x ≡ y → ⊥) → SameIs s a b n false
-    s-other f = (λ e. absurd (clash e), λ e. not-same s a b i 8 n (omega arith) ha hb (λ z. f (xi ∙ z ∙ sym yi)))
+module _ (s : List ℕ) (w : Bytes s) (a b n : ℕ) (ha : a + n ≤ length s) (hb : b + n ≤ length s) where
+  -- the k bytes after the first i that are the same are the last
+  last-ones : (i k : ℕ) → i + k ≡ n → (x y : ℕ) → x ≡ fieldAt s (a + i) k → y ≡ fieldAt s (b + i) k → take i (drop a s) ≡ take i (drop b s) → SameIs s a b n (eqb x y)
+  last-ones i k m x y xi yi e = (
+    λ t. ap (λ (z : ℕ). take z (drop a s)) (sym m) ∙ same-more s a b i k w (omega arith) (omega arith) e (sym xi ∙ eqb-eq x y t ∙ yi) ∙ ap (λ (z : ℕ). take z (drop b s)) m,
+    λ t. not-same s a b i k n (omega arith) ha hb (λ z. clash (sym t ∙ eq-eqb x y (xi ∙ z ∙ sym yi))),
+  )
 
-    pub s-again : x ≡ y → take i (drop a s) ≡ take i (drop b s) → (i + 8 ≤ n) × (take (i + 8) (drop a s) ≡ take (i + 8) (drop b s))
-    s-again f e = (omega arith, same-more s a b i 8 w (omega arith) (omega arith) e (sym xi ∙ f ∙ yi))
+  pub s-few : (x y : ℕ) → x ≡ fieldAt s a n → y ≡ fieldAt s b n → SameIs s a b n (eqb x y)
+  s-few x y xi yi =
+      let p : a ≡ a + 0 = omega arith in
+      let q : b ≡ b + 0 = omega arith in
+      last-ones 0 n (omega arith) x y (xi ∙ ap (λ (z : ℕ). fieldAt s z n) p) (yi ∙ ap (λ (z : ℕ). fieldAt s z n) q) refl
 
-  pub s-last : (x y : ℕ) → x ≡ fieldAt s (a + i) (n - i) → y ≡ fieldAt s (b + i) (n - i) → take i (drop a s) ≡ take i (drop b s) → SameIs s a b n (eqb x y)
-  s-last x y xi yi e =
-      let m : i + (n - i) ≡ n = omega arith in (
-        λ t. ap (λ (k : ℕ). take k (drop a s)) (sym m) ∙ same-more s a b i (n - i) w (omega arith) (omega arith) e (sym xi ∙ eqb-eq x y t ∙ yi) ∙ ap (λ (k : ℕ). take k (drop b s)) m,
-        λ t. not-same s a b i (n - i) n (omega arith) ha hb (λ z. clash (sym t ∙ eq-eqb x y (xi ∙ z ∙ sym yi))),
-      )
+  module _ (h : 8 ≤ n) (i : ℕ) (e : take i (drop a s) ≡ take i (drop b s)) where
+    module _ (hi : i < n - 8) (x y : ℕ) (xi : x ≡ fieldAt s (a + i) 8) (yi : y ≡ fieldAt s (b + i) 8) where
+      pub s-other : (x ≡ y → ⊥) → SameIs s a b n false
+      s-other f = (λ e. absurd (clash e), λ e. not-same s a b i 8 n (omega arith) ha hb (λ z. f (xi ∙ z ∙ sym yi)))
+
+      pub s-again : x ≡ y → (i + 8 ≤ n) × (take (i + 8) (drop a s) ≡ take (i + 8) (drop b s))
+      s-again f = (omega arith, same-more s a b i 8 w (omega arith) (omega arith) e (sym xi ∙ f ∙ yi))
+
+    pub s-last : n - 8 ≤ i → (x y : ℕ) → x ≡ fieldAt s (a + (n - 8)) 8 → y ≡ fieldAt s (b + (n - 8)) 8 → SameIs s a b n (eqb x y)
+    s-last l x y xi yi =
+        last-ones (n - 8) 8 (omega arith) x y xi yi
+        (sym (take-take (n - 8) i (drop a s) l) ∙ ap (take (n - 8)) e ∙ take-take (n - 8) i (drop b s) l)
 
 -- ---- a part by its two places
 

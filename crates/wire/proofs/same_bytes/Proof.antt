@@ -1,7 +1,7 @@
 use mathlib.Core.Path.{_≡_}
 use Prim.Native.Nat.{_-_, _≤_}
 use lib.ListN.{take, drop}
-use Rattle.wire.proofs.Same.{s-other, s-again, s-last}
+use Rattle.wire.proofs.Same.{s-few, s-other, s-again, s-last}
 use borrow.Author.Needs.{needs}
 use Rattle.wire.proofs.same_bytes.Statement.{statement}
 use Rattle.wire.proofs.same_bytes.Tie as tie
@@ -11,81 +11,78 @@ use Rattle.wire.proofs.number.Reads as number-reads
 use Rattle.wire.proofs.word.Reads as word-reads
 
 abbrev Inv-loop : tie.InvT-loop
-Inv-loop s a b n i₀ i = (i ≤ n) × (take i (drop a s) ≡ take i (drop b s))
+Inv-loop s a b n last i₀ i = (i ≤ n) × (take i (drop a s) ≡ take i (drop b s))
 
 abbrev μ-loop : tie.MeasureT-loop
-μ-loop s a b n i₀ i = n - i
+μ-loop s a b n last i₀ i = n - i
 
--- src/lib.rt:63:5
-loop-holds : tie.Need-loop-holds Inv-loop μ-loop
-loop-holds c = search needs
-
--- src/lib.rt:63:16
-sub-loop : tie.Need-sub-loop Inv-loop μ-loop
-sub-loop c = search needs
-
--- src/lib.rt:64:20
-add-word : tie.Need-add-word Inv-loop μ-loop
-add-word c = search needs
-
--- src/lib.rt:64:12
-word-requires : tie.Need-word-requires Inv-loop μ-loop
-word-requires c κs = search needs
-
--- src/lib.rt:64:38
-add-word-2 : tie.Need-add-word-2 Inv-loop μ-loop
-add-word-2 c = search needs
-
--- src/lib.rt:64:30
-word-requires-2 : tie.Need-word-requires-2 Inv-loop μ-loop
-word-requires-2 c κs = search needs
-
--- src/lib.rt:65:13
-returns : tie.Need-returns Inv-loop μ-loop
-returns c = search (needs, s-other)
-
--- src/lib.rt:67:9
-add-i : tie.Need-add-i Inv-loop μ-loop
-add-i c = search needs
-
--- src/lib.rt:63:5
-loop-less : tie.Need-loop-less Inv-loop μ-loop
-loop-less c = search needs
-
--- src/lib.rt:63:5
-loop-again : tie.Need-loop-again Inv-loop μ-loop
-loop-again c =
-    let a = c .before .before .before .before .before .before .args in
-    let l = c .before .before .before .before .loop in
-    s-again (a .s .now) (c .before .before .before .before .before .shared-slice-known .given) (a .a) (a .b) (a .n) (search needs) (search needs) (l .i) (l .inv .0) (search needs) _ _ (c .before .before .word .ensures) (c .before .word2 .ensures) (c .if1 .left) (l .inv .1)
-
--- src/lib.rt:69:15
-add-number : tie.Need-add-number Inv-loop μ-loop
-add-number c = search needs
-
--- src/lib.rt:69:22
-sub-number : tie.Need-sub-number Inv-loop μ-loop
-sub-number c = search needs
-
--- src/lib.rt:69:5
+-- src/lib.rt:64:16
 number-requires : tie.Need-number-requires Inv-loop μ-loop
 number-requires c κs = search needs
 
--- src/lib.rt:69:42
-add-number-2 : tie.Need-add-number-2 Inv-loop μ-loop
-add-number-2 c = search needs
-
--- src/lib.rt:69:49
-sub-number-2 : tie.Need-sub-number-2 Inv-loop μ-loop
-sub-number-2 c = search needs
-
--- src/lib.rt:69:32
+-- src/lib.rt:64:35
 number-requires-2 : tie.Need-number-requires-2 Inv-loop μ-loop
 number-requires-2 c κs = search needs
 
--- src/lib.rt:58:1
+-- src/lib.rt:64:9
+returns : tie.Need-returns Inv-loop μ-loop
+returns c = search (needs, s-few)
+
+-- src/lib.rt:68:5
+loop-holds : tie.Need-loop-holds Inv-loop μ-loop
+loop-holds c = search needs
+
+-- src/lib.rt:69:20
+add-word : tie.Need-add-word Inv-loop μ-loop
+add-word c = search needs
+
+-- src/lib.rt:69:12
+word-requires : tie.Need-word-requires Inv-loop μ-loop
+word-requires c κs = search needs
+
+-- src/lib.rt:69:38
+add-word-2 : tie.Need-add-word-2 Inv-loop μ-loop
+add-word-2 c = search needs
+
+-- src/lib.rt:69:30
+word-requires-2 : tie.Need-word-requires-2 Inv-loop μ-loop
+word-requires-2 c κs = search needs
+
+-- src/lib.rt:70:13
 returns-2 : tie.Need-returns-2 Inv-loop μ-loop
-returns-2 c = search (needs, s-last)
+returns-2 c = search (needs, s-other)
+
+-- src/lib.rt:72:9
+add-i : tie.Need-add-i Inv-loop μ-loop
+add-i c = search needs
+
+-- src/lib.rt:68:5
+loop-less : tie.Need-loop-less Inv-loop μ-loop
+loop-less c = search needs
+
+-- src/lib.rt:68:5
+loop-again : tie.Need-loop-again Inv-loop μ-loop
+loop-again c = let a = c .before .before .before .before .before .before .before .args in let l = c .before .before .before .before .loop in s-again (a .s .now) (c .before .before .before .before .before .before .shared-slice-known .given) (a .a) (a .b) (a .n) (search needs) (search needs) (c .before .before .before .before .before .if1 .left) (l .i) (l .inv .1) (c .before .before .before .loop-test .taken) _ _ (c .before .before .word .ensures) (c .before .word2 .ensures) (c .if2 .left)
+
+-- src/lib.rt:74:13
+add-word-3 : tie.Need-add-word-3 Inv-loop μ-loop
+add-word-3 c = search needs
+
+-- src/lib.rt:74:5
+word-requires-3 : tie.Need-word-requires-3 Inv-loop μ-loop
+word-requires-3 c κs = search needs
+
+-- src/lib.rt:74:34
+add-word-4 : tie.Need-add-word-4 Inv-loop μ-loop
+add-word-4 c = search needs
+
+-- src/lib.rt:74:26
+word-requires-4 : tie.Need-word-requires-4 Inv-loop μ-loop
+word-requires-4 c κs = search needs
+
+-- src/lib.rt:59:1
+returns-3 : tie.Need-returns-3 Inv-loop μ-loop
+returns-3 c = search (needs, s-last)
 
 pub same-bytes-spec : {M : Type 1} → statement M
 same-bytes-spec =
@@ -93,20 +90,20 @@ same-bytes-spec =
     (tie.spec
     Inv-loop
     μ-loop
+    number-requires
+    number-requires-2
+    returns
     loop-holds
-    sub-loop
     add-word
     word-requires
     add-word-2
     word-requires-2
-    returns
+    returns-2
     add-i
     loop-less
     loop-again
-    add-number
-    sub-number
-    number-requires
-    add-number-2
-    sub-number-2
-    number-requires-2
-    returns-2)
+    add-word-3
+    word-requires-3
+    add-word-4
+    word-requires-4
+    returns-3)
