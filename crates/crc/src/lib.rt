@@ -35,12 +35,13 @@ fn folded(c: u64, s: &[u8]) -> u64
     words::after(0, &r[..n])
 }
 
-// The register c after the bytes: a log's parts are fed one after the other.
+// The register c after the bytes: a log's parts are fed one after the other. (A slice that is taken anew, `&s[..]`, is handed on as two numbers; as
+// it came, it is copied at once, and a processor waits until the caller's numbers are stored.)
 pub fn more(c: u32, s: &[u8]) -> u32
     ensures { λ r. ⌜ r ≡ crcFrom c (now (s .entry)) ⌝ }
 {
-    if s.len() < 1024 {
-        return words::after(c as u64, s) as u32;
+    if s.len() < 1536 {
+        return words::after(c as u64, &s[..]) as u32;
     }
     folded(c as u64, s) as u32
 }

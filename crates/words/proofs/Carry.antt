@@ -1,30 +1,35 @@
 -- A word is carried into those that follow it, by a multiple of the polynomial.
 -- Assumes nothing.
 use mathlib.Core.Path.{_≡_, refl, sym, ap, ap₂, _∙_}
-use mathlib.Core.Bool.{Bool, true, false, _&&_}
+use mathlib.Core.Bool.{Bool, true, false, cond, _&&_}
 use mathlib.Core.List.{List, [], _∷_}
 use Prim.Native.Nat.{ℕ, suc, _+_, _-_, _*_, _/_, _%_, _^_, _≤_, _<_}
-use native.Mathlib.Nat.{mod-lt, zero-mul, zero-add, add-comm, mul-assoc, mul-mod-left, mod-eq-of-lt, lt-of-le-of-lt}
+use native.Mathlib.Nat.{mod-lt, zero-mul, zero-add, add-comm, mul-assoc, mul-one, mul-mod-left, mod-eq-of-lt, div-eq-of-lt, lt-of-le-of-lt, lt-of-lt-of-le}
 use native.Mathlib.Omega.{arith}
-use lib.Bits.{bitXor, xor-block, xor-comm, xor-shr, xor-mod, xor-shifted}
-use lib.Dec.{T, leb, leb→le}
-use lib.Pow.{pow-pos, pow-add, split, high, low, shl-shr, shr-shr, shr-le}
+use lib.Bits.{bitXor, xor-block, xor-comm, xor-shr, xor-mod, xor-lt, xor-zero-r}
+use lib.Dec.{T, leb, ltb, leb→le}
+use lib.ListN.{length}
+use lib.Pow.{pow-pos, pow-add, pow-mono, split, high, low, shl-shr, shr-shr, shr-le}
+use borrow.Author.Tests.{ltb-true, ltb-false, leb-true, leb-false}
 use Rattle.format.specs.Crc.{bitSteps}
-use Rattle.words.specs.Words.{on, mix, lefts}
+use Rattle.words.specs.Words.{on, mix}
 use Rattle.words.proofs.Laws.{xor-assoc, xor-swap, steps-xor, steps-shifted, steps-add, steps-split}
 use Rattle.words.proofs.Linear.{Linear, shl-xor, shl-linear, id-linear, xor-linear, comp-linear, xor-equal, vanish}
 
+abbrev pub Word : ℕ → Type 0
+Word w = w < 2 ^ 64
+
 -- ---- a word with a number above it
 
-pub on-low : (w n : ℕ) → w < 2 ^ 64 → on w n % 2 ^ 64 ≡ w
+pub on-low : (w n : ℕ) → Word w → on w n % 2 ^ 64 ≡ w
 unfolding on
 on-low w n h = low n 64 h
 
-pub on-high : (w n : ℕ) → w < 2 ^ 64 → on w n / 2 ^ 64 ≡ n
+pub on-high : (w n : ℕ) → Word w → on w n / 2 ^ 64 ≡ n
 unfolding on
 on-high w n h = high n 64 h
 
-pub on-xor : (v m w n : ℕ) → v < 2 ^ 64 → w < 2 ^ 64 → bitXor (on v m) (on w n) ≡ on (bitXor v w) (bitXor m n)
+pub on-xor : (v m w n : ℕ) → Word v → Word w → bitXor (on v m) (on w n) ≡ on (bitXor v w) (bitXor m n)
 unfolding on
 on-xor v m w n hv hw = xor-block 64 m n v w hv hw
 
@@ -32,26 +37,16 @@ pub on-parts : (n : ℕ) → n ≡ on (n % 2 ^ 64) (n / 2 ^ 64)
 unfolding on
 on-parts n = sym (split n 64)
 
-pub on-is : (w n : ℕ) → w < 2 ^ 64 → on w n ≡ bitXor (n * 2 ^ 64) w
-unfolding on
-on-is w n h = sym (xor-shifted n 64 w h)
-
 pub on-zero : (w : ℕ) → on w 0 ≡ w
 unfolding on
 on-zero w = zero-add w
 
--- what is shifted far enough goes by itself
-pub on-shl : (w x k n : ℕ) → w < 2 ^ 64 → on w (bitXor (x * 2 ^ k) n) ≡ bitXor (x * 2 ^ (k + 64)) (on w n)
-on-shl w x k n h =
-    on-is w (bitXor (x * 2 ^ k) n) h
-    ∙ ap (λ (y : ℕ). bitXor y w) (shl-xor (x * 2 ^ k) n 64)
-    ∙ xor-assoc (x * 2 ^ k * 2 ^ 64) (n * 2 ^ 64) w
-    ∙ ap₂ bitXor (mul-assoc x (2 ^ k) (2 ^ 64) ∙ ap (λ (y : ℕ). x * y) (sym (pow-add 2 k 64))) (sym (on-is w n h))
+-- a word alone falls on the first
+pub on-meet : (w n x : ℕ) → Word w → Word x → bitXor (on w n) x ≡ on (bitXor w x) n
+on-meet w n x hw hx =
+    ap (bitXor (on w n)) (sym (on-zero x)) ∙ on-xor w n x 0 hw hx ∙ ap (on (bitXor w x)) (xor-zero-r n)
 
-pub on-top : (w x : ℕ) → w < 2 ^ 64 → on w (on x 0) ≡ bitXor (x * 2 ^ 64) (on w 0)
-on-top w x h = ap (on w) (on-zero x) ∙ on-is w x h ∙ ap (bitXor (x * 2 ^ 64)) (sym (on-zero w))
-
--- ---- shifts
+-- ---- shifts by several places
 
 pub down : (x D s : ℕ) → s ≤ D → x * 2 ^ D / 2 ^ s ≡ x * 2 ^ (D - s)
 down x D s h =
@@ -60,35 +55,6 @@ down x D s h =
     ∙ ap (λ (y : ℕ). x * y / 2 ^ s) (pow-add 2 (D - s) s)
     ∙ ap (λ (y : ℕ). y / 2 ^ s) (sym (mul-assoc x (2 ^ (D - s)) (2 ^ s)))
     ∙ shl-shr (x * 2 ^ (D - s)) s
-
--- what two shifts compute is a word in the middle of two
-pub over-law : (lo hi s : ℕ) → lo < 2 ^ 64 → s < 64 → bitXor (lo / 2 ^ s) (hi * 2 ^ (64 - s) % 2 ^ 64) ≡ on lo hi / 2 ^ s % 2 ^ 64
-over-law lo hi s hl hs =
-    ap₂ bitXor (sym (mod-eq-of-lt (lt-of-le-of-lt (shr-le lo s) hl))) (ap (λ (y : ℕ). y % 2 ^ 64) (sym (down hi 64 s (omega arith))))
-    ∙ sym (xor-mod (lo / 2 ^ s) (hi * 2 ^ 64 / 2 ^ s) 64)
-    ∙ ap (λ (y : ℕ). y % 2 ^ 64)
-    (sym (xor-shr lo (hi * 2 ^ 64) s) ∙ ap (λ (y : ℕ). y / 2 ^ s) (xor-comm lo (hi * 2 ^ 64) ∙ sym (on-is lo hi hl)))
-
--- what stands above the two does not matter
-pub near-word : (a b n s : ℕ) → a < 2 ^ 64 → b < 2 ^ 64 → s ≤ 64 → on a (on b n) / 2 ^ s % 2 ^ 64 ≡ on a b / 2 ^ s % 2 ^ 64
-near-word a b n s ha hb hs =
-    let e : 128 - s ≡ (64 - s) + 64 = omega arith in
-    ap (λ (y : ℕ). y / 2 ^ s % 2 ^ 64) (ap (on a) (on-is b n hb) ∙ on-shl a n 64 b ha)
-    ∙ ap (λ (y : ℕ). y % 2 ^ 64) (xor-shr (n * 2 ^ 128) (on a b) s)
-    ∙ xor-mod (n * 2 ^ 128 / 2 ^ s) (on a b / 2 ^ s) 64
-    ∙ ap (λ (y : ℕ). bitXor y (on a b / 2 ^ s % 2 ^ 64))
-    (ap (λ (y : ℕ). y % 2 ^ 64)
-    (down n 128 s (omega arith)
-    ∙ ap (λ (y : ℕ). n * 2 ^ y) e
-    ∙ ap (λ (y : ℕ). n * y) (pow-add 2 (64 - s) 64)
-    ∙ sym (mul-assoc n (2 ^ (64 - s)) (2 ^ 64)))
-    ∙ mul-mod-left (n * 2 ^ (64 - s)) (2 ^ 64))
-
--- a word on
-pub later-word : (a n s : ℕ) → a < 2 ^ 64 → on a n / 2 ^ (64 + s) ≡ n / 2 ^ s
-later-word a n s h = sym (shr-shr (on a n) 64 s) ∙ ap (λ (y : ℕ). y / 2 ^ s) (on-high a n h)
-
--- ---- shifts by several places
 
 pub mix-xor : (ss : List ℕ) (a b : ℕ) → mix ss (bitXor a b) ≡ bitXor (mix ss a) (mix ss b)
 unfolding mix
@@ -105,10 +71,10 @@ mix-shr (s ∷ ss) a k =
     ap₂ bitXor (shr-shr a k s ∙ ap (λ (y : ℕ). a / 2 ^ y) (add-comm k s) ∙ sym (shr-shr a s k)) (mix-shr ss a k)
     ∙ sym (xor-shr (a / 2 ^ s) (mix ss a) k)
 
-pub mix-zero : (ss : List ℕ) → mix ss 0 ≡ 0
+pub mix-lt : (ss : List ℕ) (h k : ℕ) → h < 2 ^ k → mix ss h < 2 ^ k
 unfolding mix
-mix-zero [] = refl
-mix-zero (s ∷ ss) = ap₂ bitXor (zero-shr s) (mix-zero ss)
+mix-lt [] h k e = pow-pos k
+mix-lt (s ∷ ss) h k e = xor-lt k (h / 2 ^ s) (mix ss h) (lt-of-le-of-lt (shr-le h s) e) (mix-lt ss h k e)
 
 -- the places are no more than D
 abbrev pub within : ℕ → List ℕ → Bool
@@ -139,16 +105,6 @@ mix-linear ss D t = record {
   dbl = mix-dbl ss D t;
 }
 
--- what a machine keeps of the shifts up
-pub lefts-are : (ss : List ℕ) → T (within 64 ss) → (x : ℕ) → lefts ss x ≡ mix ss (x * 2 ^ 64) % 2 ^ 64
-unfolding mix lefts
-lefts-are [] t x = refl
-lefts-are (s ∷ ss) t x =
-    ap₂ bitXor
-    (ap (λ (y : ℕ). y % 2 ^ 64) (sym (down x 64 s (leb→le s 64 (left (leb s 64) (within 64 ss) t)))))
-    (lefts-are ss (right (leb s 64) (within 64 ss) t) x)
-    ∙ sym (xor-mod (x * 2 ^ 64 / 2 ^ s) (mix ss (x * 2 ^ 64)) 64)
-
 -- the low word of b bits of the shifts, place by place
 abbrev pub words : ℕ → List ℕ → ℕ → ℕ
 words b [] h = 0
@@ -167,11 +123,6 @@ flush-by b ss h G w R hh hw =
     let up : m / 2 ^ b ≡ mix ss G = sym (mix-shr ss (G * 2 ^ b + h) b) ∙ ap (mix ss) (high G b hh) in
     ap (λ (y : ℕ). bitXor y (R * 2 ^ b + w)) (sym (split m b) ∙ ap (λ (y : ℕ). y * 2 ^ b + m % 2 ^ b) up)
     ∙ xor-block b (mix ss G) R (m % 2 ^ b) w (mod-lt m (pow-pos b)) hw
-
-pub flush : (ss : List ℕ) (h G w R : ℕ) → h < 2 ^ 64 → w < 2 ^ 64
-    → bitXor (mix ss (on h G)) (on w R) ≡ on (bitXor (mix ss (on h G) % 2 ^ 64) w) (bitXor (mix ss G) R)
-unfolding on
-flush ss h G w R hh hw = flush-by 64 ss h G w R hh hw
 
 -- ---- one word less
 
@@ -196,7 +147,7 @@ module _ (b : ℕ) (ss : List ℕ) (D K : ℕ) (t : T (within D ss)) (gone : bit
       ∙ sym (steps-xor (b + M) x (mix ss (x * 2 ^ D) * 2 ^ b))
       ∙ vanish (multiple-by b ss D) multiples K gone b x (b + M) hx (omega arith))
 
-  pub carry-by : (x R M : ℕ) → x < 2 ^ b → K ≤ M → bitSteps (b + M) (R * 2 ^ b + x) ≡ bitSteps M (bitXor (mix ss (x * 2 ^ D)) R)
+  carry-by : (x R M : ℕ) → x < 2 ^ b → K ≤ M → bitSteps (b + M) (R * 2 ^ b + x) ≡ bitSteps M (bitXor (mix ss (x * 2 ^ D)) R)
   carry-by x R M hx hM =
       steps-split b M (R * 2 ^ b + x)
       ∙ ap₂ bitXor (ap (bitSteps M) (high R b hx)) (ap (bitSteps (b + M)) (low R b hx) ∙ carry x M hx hM)
@@ -212,13 +163,138 @@ module _ (b : ℕ) (ss : List ℕ) (D K : ℕ) (t : T (within D ss)) (gone : bit
       ∙ ap (bitSteps M)
       (sym (xor-assoc (mix ss (x * 2 ^ D)) (mix ss G) R) ∙ ap (λ (y : ℕ). bitXor y R) (sym (mix-xor ss (x * 2 ^ D) G)))
 
--- the same for words of 64 bits
-module _ (ss : List ℕ) (D K : ℕ) (t : T (within D ss)) (gone : bitSteps (suc K) (multiple ss D 1) ≡ 0) where
-  pub carry-on : (x R M : ℕ) → x < 2 ^ 64 → K ≤ M → bitSteps (64 + M) (on x R) ≡ bitSteps M (bitXor (mix ss (x * 2 ^ D)) R)
-  unfolding on
-  carry-on = carry-by 64 ss D K t gone
+-- ---- words that follow, and what falls on them
 
-  pub turn : (h G w R M : ℕ) → h < 2 ^ 64 → w < 2 ^ 64 → K ≤ M → (x : ℕ) → x < 2 ^ 64 → x ≡ bitXor (mix ss (on h G) % 2 ^ 64) w
-      → bitSteps (64 + M) (bitXor (mix ss (on h G)) (on w R)) ≡ bitSteps M (bitXor (mix ss (bitXor (x * 2 ^ D) G)) R)
-  unfolding on
-  turn = turn-by 64 ss D K t gone
+-- the words, one above the other, and n above them
+abbrev pub stack : List ℕ → ℕ → ℕ
+stack [] n = n
+stack (w ∷ ws) n = on w (stack ws n)
+
+abbrev pub Words : List ℕ → Type 0
+Words [] = Unit
+Words (w ∷ ws) = Word w × Words ws
+
+-- a word more of what x carries
+peel : (ss : List ℕ) (x d : ℕ) → mix ss (x * 2 ^ (64 + d)) ≡ on (mix ss (x * 2 ^ (64 + d)) % 2 ^ 64) (mix ss (x * 2 ^ d))
+peel ss x d =
+    on-parts (mix ss (x * 2 ^ (64 + d)))
+    ∙ ap (on (mix ss (x * 2 ^ (64 + d)) % 2 ^ 64))
+    (sym (mix-shr ss (x * 2 ^ (64 + d)) 64)
+    ∙ ap (mix ss) (ap (λ (k : ℕ). x * 2 ^ k / 2 ^ 64) (add-comm 64 d) ∙ ap (λ (y : ℕ). x * y / 2 ^ 64) (pow-add 2 d 64) ∙ ap (λ (y : ℕ). y / 2 ^ 64) (sym (mul-assoc x (2 ^ d) (2 ^ 64))) ∙ shl-shr (x * 2 ^ d) 64))
+
+-- each word with what x, so many words before the first of them, carries into it
+abbrev pub falls : List ℕ → ℕ → List ℕ → List ℕ
+falls ss x [] = []
+falls ss x (w ∷ ws) = bitXor w (mix ss (x * 2 ^ (64 * length (w ∷ ws))) % 2 ^ 64) ∷ falls ss x ws
+
+fallen : (ss : List ℕ) (x : ℕ) (ws : List ℕ) (R : ℕ) → Words ws
+    → bitXor (stack ws R) (mix ss (x * 2 ^ (64 * length ws))) ≡ stack (falls ss x ws) (bitXor R (mix ss x))
+fallen ss x [] R h = ap (λ (y : ℕ). bitXor R (mix ss y)) (mul-one x)
+fallen ss x (w ∷ ws) R h =
+    let k = 64 * length ws in
+    let e : 64 * length (w ∷ ws) ≡ 64 + k = omega arith in
+    let p : ℕ = mix ss (x * 2 ^ (64 + k)) % 2 ^ 64 in
+    ap (bitXor (on w (stack ws R))) (ap (λ (n : ℕ). mix ss (x * 2 ^ n)) e ∙ peel ss x k)
+    ∙ on-xor w (stack ws R) p (mix ss (x * 2 ^ k)) (h .0) (mod-lt (mix ss (x * 2 ^ (64 + k))) (pow-pos 64))
+    ∙ ap₂ on (ap (λ (n : ℕ). bitXor w (mix ss (x * 2 ^ n) % 2 ^ 64)) (sym e)) (fallen ss x ws R (h .1))
+
+-- x is carried into them
+pub carried : (ss ws : List ℕ) (K : ℕ) → T (within (64 * length ws) ss) → bitSteps (suc K) (multiple ss (64 * length ws) 1) ≡ 0
+    → (x R M : ℕ) → Word x → Words ws → K ≤ M
+    → bitSteps M (stack (falls ss x ws) (bitXor R (mix ss x))) ≡ bitSteps (64 + M) (on x (stack ws R))
+unfolding on
+carried ss ws K t gone x R M hx hws hM =
+    let m = mix ss (x * 2 ^ (64 * length ws)) in
+    sym
+    (carry-by 64 ss (64 * length ws) K t gone x (stack ws R) M hx hM
+    ∙ ap (bitSteps M) (xor-comm m (stack ws R) ∙ fallen ss x ws R hws))
+
+-- ---- as shifts of words
+
+-- x shifted up by d and down by s, in a machine's word, where that is not nothing; and ys
+abbrev pub shifted : ℕ → ℕ → ℕ → List ℕ → List ℕ
+shifted d s x ys =
+    cond (leb s d) (cond (ltb (d - s) 64) (x * 2 ^ (d - s) % 2 ^ 64 ∷ ys) ys) (cond (ltb (s - d) 64) (x / 2 ^ (s - d) ∷ ys) ys)
+
+abbrev pub shifts : ℕ → List ℕ → ℕ → List ℕ
+shifts d [] x = []
+shifts d (s ∷ ss) x = shifted d s x (shifts d ss x)
+
+-- their sum, and that of a word and them
+abbrev pub sum : List ℕ → ℕ
+sum [] = 0
+sum (y ∷ []) = y
+sum (y ∷ z ∷ ys) = bitXor y (sum (z ∷ ys))
+
+abbrev pub meet : ℕ → List ℕ → ℕ
+meet w [] = w
+meet w (y ∷ ys) = bitXor w (sum (y ∷ ys))
+
+pub sum-more : (y : ℕ) (ys : List ℕ) → sum (y ∷ ys) ≡ bitXor y (sum ys)
+sum-more y [] = sym (xor-zero-r y)
+sum-more y (z ∷ ys) = refl
+
+meet-is : (w : ℕ) (ys : List ℕ) → meet w ys ≡ bitXor w (sum ys)
+meet-is w [] = sym (xor-zero-r w)
+meet-is w (y ∷ ys) = refl
+
+shifted-is : (d s x : ℕ) (ys : List ℕ) → Word x → sum (shifted d s x ys) ≡ bitXor (x * 2 ^ d / 2 ^ s % 2 ^ 64) (sum ys)
+shifted-is d s x ys hx = go (leb s d) refl
+  where
+    nothing : (n : ℕ) → n ≡ 0 → sum ys ≡ bitXor n (sum ys)
+    nothing n e = sym (ap (λ (y : ℕ). bitXor y (sum ys)) e)
+
+    up : (k : ℕ) (t : Bool) → ltb k 64 ≡ t → sum (cond t (x * 2 ^ k % 2 ^ 64 ∷ ys) ys) ≡ bitXor (x * 2 ^ k % 2 ^ 64) (sum ys)
+    up k true e = sum-more (x * 2 ^ k % 2 ^ 64) ys
+    up k false e =
+        let h : 64 ≤ k = ltb-false k 64 e in
+        let n : k ≡ (k - 64) + 64 = omega arith in
+        nothing (x * 2 ^ k % 2 ^ 64)
+        (ap (λ (j : ℕ). x * 2 ^ j % 2 ^ 64) n
+        ∙ ap (λ (y : ℕ). x * y % 2 ^ 64) (pow-add 2 (k - 64) 64)
+        ∙ ap (λ (y : ℕ). y % 2 ^ 64) (sym (mul-assoc x (2 ^ (k - 64)) (2 ^ 64)))
+        ∙ mul-mod-left (x * 2 ^ (k - 64)) (2 ^ 64))
+
+    below : (k : ℕ) (t : Bool) → ltb k 64 ≡ t → sum (cond t (x / 2 ^ k ∷ ys) ys) ≡ bitXor (x / 2 ^ k) (sum ys)
+    below k true e = sum-more (x / 2 ^ k) ys
+    below k false e = nothing (x / 2 ^ k) (div-eq-of-lt (lt-of-lt-of-le hx (pow-mono {i = 64} (ltb-false k 64 e))))
+
+    go : (t : Bool) → leb s d ≡ t
+        → sum (cond t (cond (ltb (d - s) 64) (x * 2 ^ (d - s) % 2 ^ 64 ∷ ys) ys) (cond (ltb (s - d) 64) (x / 2 ^ (s - d) ∷ ys) ys))
+        ≡ bitXor (x * 2 ^ d / 2 ^ s % 2 ^ 64) (sum ys)
+    go true e =
+        up (d - s) (ltb (d - s) 64) refl
+        ∙ ap (λ (y : ℕ). bitXor (y % 2 ^ 64) (sum ys)) (sym (down x d s (leb-true s d e)))
+    go false e =
+        let h : d < s = leb-false s d e in
+        let n : s ≡ d + (s - d) = omega arith in
+        below (s - d) (ltb (s - d) 64) refl
+        ∙ ap (λ (y : ℕ). bitXor y (sum ys))
+        (sym
+        (ap (λ (k : ℕ). x * 2 ^ d / 2 ^ k % 2 ^ 64) n
+        ∙ ap (λ (y : ℕ). y % 2 ^ 64)
+        (sym (shr-shr (x * 2 ^ d) d (s - d)) ∙ ap (λ (y : ℕ). y / 2 ^ (s - d)) (shl-shr x d))
+        ∙ mod-eq-of-lt (lt-of-le-of-lt (shr-le x (s - d)) hx)))
+
+pub shifts-are : (d : ℕ) (ss : List ℕ) (x : ℕ) → Word x → mix ss (x * 2 ^ d) % 2 ^ 64 ≡ sum (shifts d ss x)
+unfolding mix
+shifts-are d [] x hx = refl
+shifts-are d (s ∷ ss) x hx =
+    xor-mod (x * 2 ^ d / 2 ^ s) (mix ss (x * 2 ^ d)) 64
+    ∙ ap (bitXor (x * 2 ^ d / 2 ^ s % 2 ^ 64)) (shifts-are d ss x hx)
+    ∙ sym (shifted-is d s x (shifts d ss x) hx)
+
+-- what x carries beyond them
+pub rest-is : (ss : List ℕ) (x : ℕ) → Word x → mix ss x ≡ sum (shifts 0 ss x)
+rest-is ss x hx = sym (mod-eq-of-lt (mix-lt ss x 64 hx)) ∙ ap (λ (y : ℕ). mix ss y % 2 ^ 64) (sym (mul-one x)) ∙ shifts-are 0 ss x hx
+
+abbrev pub meets : List ℕ → ℕ → List ℕ → List ℕ
+meets ss x [] = []
+meets ss x (w ∷ ws) = meet w (shifts (64 * length (w ∷ ws)) ss x) ∷ meets ss x ws
+
+pub falls-are : (ss : List ℕ) (x : ℕ) (ws : List ℕ) (R : ℕ) → Word x → stack (meets ss x ws) R ≡ stack (falls ss x ws) R
+falls-are ss x [] R hx = refl
+falls-are ss x (w ∷ ws) R hx =
+    ap₂ on
+    (meet-is w (shifts (64 * length (w ∷ ws)) ss x) ∙ ap (bitXor w) (sym (shifts-are (64 * length (w ∷ ws)) ss x hx)))
+    (falls-are ss x ws R hx)

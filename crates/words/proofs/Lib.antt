@@ -1,7 +1,7 @@
 pub mod Laws
 pub mod Linear
 pub mod Carry
+pub mod Factors
 pub mod Taps
 pub mod Start
 pub mod Ends
-pub mod Joined

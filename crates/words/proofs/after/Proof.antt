@@ -1,69 +1,69 @@
-use borrow.Author.Needs.{needs}
-use mathlib.Core.Path.{ap, _∙_}
-use Prim.Native.Nat.{ℕ, _+_, _-_, _*_, _/_, _%_, _^_}
-use native.Mathlib.Omega.{arith}
-use lib.Bits.{bitXor}
-use lib.ListN.{length}
 use Rattle.words.proofs.Ends.{empty, tiny, longer}
+use lib.ListN.{length}
+use lib.Bits.{bitXor}
+use native.Mathlib.Omega.{arith}
+use Prim.Native.Nat.{ℕ, _+_, _-_, _*_, _/_, _%_, _^_}
+use mathlib.Core.Path.{ap, _∙_}
+use borrow.Author.Needs.{needs}
 use Rattle.words.proofs.after.Statement.{statement}
 use Rattle.words.proofs.after.Tie as tie
 use Rattle.words.proofs.after.Reads as reads
 use Rattle.words.proofs.after.Lts as lts
+use Rattle.wire.proofs.number.Reads as number-reads
+use Rattle.wire.proofs.word.Reads as word-reads
 use Rattle.words.proofs.few.Reads as few-reads
 use Rattle.words.proofs.last_one.Reads as last-one-reads
 use Rattle.words.proofs.many.Reads as many-reads
-use Rattle.wire.proofs.number.Reads as number-reads
-use Rattle.wire.proofs.word.Reads as word-reads
 
--- src/lib.rt:157:9
+-- src/lib.rt:179:9
 returns : tie.Need-returns
 returns c = empty (c .before .before .args .c) (c .before .before .args .s .now) (search needs)
 
--- src/lib.rt:159:14
+-- src/lib.rt:181:14
 sub-k : tie.Need-sub-k
 sub-k c = search needs
 
--- src/lib.rt:159:13
+-- src/lib.rt:181:13
 add-k : tie.Need-add-k
 add-k c = search needs
 
--- src/lib.rt:160:23
+-- src/lib.rt:182:23
 mul-high : tie.Need-mul-high
 mul-high c = search needs
 
--- src/lib.rt:160:17
+-- src/lib.rt:182:17
 shr-high : tie.Need-shr-high
 shr-high c = search needs
 
--- src/lib.rt:160:35
+-- src/lib.rt:182:35
 mul-high-2 : tie.Need-mul-high-2
 mul-high-2 c = search needs
 
--- src/lib.rt:160:16
+-- src/lib.rt:182:16
 shr-high-2 : tie.Need-shr-high-2
 shr-high-2 c = search needs
 
--- src/lib.rt:162:13
+-- src/lib.rt:184:13
 number-requires : tie.Need-number-requires
 number-requires c κs = search needs
 
--- src/lib.rt:163:42
+-- src/lib.rt:185:42
 mul-last-one : tie.Need-mul-last-one
 mul-last-one c = search needs
 
--- src/lib.rt:163:37
+-- src/lib.rt:185:37
 sub-last-one : tie.Need-sub-last-one
 sub-last-one c = search needs
 
--- src/lib.rt:163:25
+-- src/lib.rt:185:25
 shl-last-one : tie.Need-shl-last-one
 shl-last-one c = search needs
 
--- src/lib.rt:163:16
+-- src/lib.rt:185:16
 last-one-requires : tie.Need-last-one-requires
 last-one-requires c κs = search needs
 
--- src/lib.rt:163:9
+-- src/lib.rt:185:9
 returns-2 : tie.Need-returns-2
 returns-2 c =
     let a = c .before .before .before .before .before .args in
@@ -72,43 +72,43 @@ returns-2 c =
     ap (λ (r : ℕ). bitXor r (a .c / 2 ^ (4 * k) / 2 ^ (4 * k))) (c .last-one .ensures)
     ∙ tiny (a .c) s (c .before .before .before .before .shared-slice-known .given) (search needs) (omega arith) (omega arith) _ (c .before .number .ensures) k (omega arith)
 
--- src/lib.rt:165:18
+-- src/lib.rt:187:18
 word-requires : tie.Need-word-requires
 word-requires c κs = search needs
 
--- src/lib.rt:165:55
+-- src/lib.rt:187:43
 mul-first : tie.Need-mul-first
 mul-first c = search needs
 
--- src/lib.rt:165:50
+-- src/lib.rt:187:38
 sub-first : tie.Need-sub-first
 sub-first c = search needs
 
--- src/lib.rt:165:17
+-- src/lib.rt:187:17
 shl-first : tie.Need-shl-first
 shl-first c = search needs
 
--- src/lib.rt:166:18
+-- src/lib.rt:188:18
 word-requires-2 : tie.Need-word-requires-2
 word-requires-2 c κs = search needs
 
--- src/lib.rt:168:16
+-- src/lib.rt:190:16
 add-few : tie.Need-add-few
 add-few c = search needs
 
--- src/lib.rt:168:9
+-- src/lib.rt:190:9
 few-requires : tie.Need-few-requires
 few-requires c κs = search needs
 
--- src/lib.rt:170:17
+-- src/lib.rt:192:17
 add-many : tie.Need-add-many
 add-many c = search needs
 
--- src/lib.rt:170:9
+-- src/lib.rt:192:9
 many-requires : tie.Need-many-requires
 many-requires c κs = search needs
 
--- src/lib.rt:151:1
+-- src/lib.rt:173:1
 returns-3 : tie.Need-returns-3
 returns-3 c =
     let a = c .before .before .before .before .before .before .before .args in
@@ -118,7 +118,7 @@ returns-3 c =
     ∙ longer (a .c) s (c .before .before .before .before .before .before .shared-slice-known .given) (search needs) (omega arith) k _ _ (omega arith) (omega arith) (omega arith)
     (c .before .before .before .word .ensures) (c .before .before .word2 .ensures)
 
--- src/lib.rt:151:1
+-- src/lib.rt:173:1
 returns-4 : tie.Need-returns-4
 returns-4 c =
     let a = c .before .before .before .before .before .before .before .args in

@@ -1,14 +1,16 @@
-use lib.Bits.{xor-zero-r}
-use Rattle.words.specs.Words.{lefts}
+use Rattle.words.proofs.Carry.{shifts-are}
+use Rattle.words.specs.Words.{inverse₁}
+use lib.Bits.{bitXor}
+use mathlib.Core.Path.{sym, ap}
+use borrow.Author.Needs.{needs}
 use Rattle.words.proofs.inverse_one.Statement.{statement}
 use Rattle.words.proofs.inverse_one.Tie as tie
 use Rattle.words.proofs.inverse_one.Reads as reads
 use Rattle.words.proofs.inverse_one.Lts as lts
 
--- src/lib.rt:49:1
+-- src/lib.rt:79:1
 returns : tie.Need-returns
-unfolding lefts
-returns c = rw xor-zero-r
+returns c = ap (bitXor (c .args .x)) (sym (shifts-are 64 inverse₁ (c .args .x) (c .fits .x .fits)))
 
 pub inverse-one-spec : {M : Type 1} → statement M
 inverse-one-spec = tie.close (tie.spec returns)

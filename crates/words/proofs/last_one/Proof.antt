@@ -1,5 +1,5 @@
-use mathlib.Core.Path.{_∙_}
 use Rattle.words.proofs.Taps.{last-word}
+use mathlib.Core.Path.{_∙_}
 use borrow.Author.Needs.{needs}
 use Rattle.words.proofs.last_one.Statement.{statement}
 use Rattle.words.proofs.last_one.Tie as tie
@@ -9,19 +9,19 @@ use Rattle.words.proofs.above.Reads as above-reads
 use Rattle.words.proofs.inverse_one.Reads as inverse-one-reads
 use Rattle.words.proofs.inverse_two.Reads as inverse-two-reads
 
--- src/lib.rt:72:23
+-- src/lib.rt:111:23
 inverse-one-requires : tie.Need-inverse-one-requires
 inverse-one-requires c κs = search needs
 
--- src/lib.rt:72:11
+-- src/lib.rt:111:11
 inverse-two-requires : tie.Need-inverse-two-requires
 inverse-two-requires c κs = search needs
 
--- src/lib.rt:72:5
+-- src/lib.rt:111:5
 above-requires : tie.Need-above-requires
 above-requires c κs = search needs
 
--- src/lib.rt:69:1
+-- src/lib.rt:108:1
 returns : tie.Need-returns
 returns c =
     let x = c .before .before .before .args .x in
