@@ -14,7 +14,7 @@ use Rattle.format.specs.Bytes.{num, fieldAt}
 use Rattle.wire.specs.Answer.{SameIs}
 use Rattle.wire.proofs.Laws.{Bytes, bytes-take, bytes-drop, field-more}
 
--- eight bytes by twos
+-- eight bytes, one by one
 below : (s : List ℕ) (p q k : ℕ) → q ≡ suc p → p < length s → fieldAt s p (suc k) ≡ fieldAt s q k * 256 + getD s p 0
 below s p q k e h = rw e (field-more s p k h)
 
@@ -22,11 +22,11 @@ none-left : (s : List ℕ) (p : ℕ) → fieldAt s p 0 ≡ 0
 unfolding fieldAt num
 none-left s p = refl
 
-pub by-twos : (s : List ℕ) (at a b c d : ℕ) → at + 8 ≤ length s
-    → a ≡ getD s (at + 1) 0 * 256 + getD s at 0 → b ≡ getD s (at + 3) 0 * 256 + getD s (at + 2) 0
-    → c ≡ getD s (at + 5) 0 * 256 + getD s (at + 4) 0 → d ≡ getD s (at + 7) 0 * 256 + getD s (at + 6) 0
-    → (d * 65536 + c) * 4294967296 + (b * 65536 + a) ≡ fieldAt s at 8
-by-twos s at a b c d h ea eb ec ed =
+pub by-bytes : (s : List ℕ) (at x : ℕ) → at + 8 ≤ length s
+    → x ≡ ((((((getD s (at + 7) 0 * 256 + getD s (at + 6) 0) * 256 + getD s (at + 5) 0) * 256 + getD s (at + 4) 0) * 256 + getD s (at + 3) 0) * 256 + getD s (at + 2) 0) * 256
+    + getD s (at + 1) 0) * 256 + getD s at 0
+    → x ≡ fieldAt s at 8
+by-bytes s at x h e =
     let l₀ : fieldAt s at 8 ≡ fieldAt s (at + 1) 7 * 256 + getD s at 0 = below s at (at + 1) 7 (omega arith) (omega arith) in
     let l₁ : fieldAt s (at + 1) 7 ≡ fieldAt s (at + 2) 6 * 256 + getD s (at + 1) 0 = below s (at + 1) (at + 2) 6 (omega arith) (omega arith) in
     let l₂ : fieldAt s (at + 2) 6 ≡ fieldAt s (at + 3) 5 * 256 + getD s (at + 2) 0 = below s (at + 2) (at + 3) 5 (omega arith) (omega arith) in

@@ -8,7 +8,7 @@ ghost use lib.ListN.{length};
 ghost use Rattle.format.specs.Bytes.{fieldAt, bigAt};
 ghost use Rattle.format.specs.Columns.{bit, bits, count, bitBytes};
 ghost use Rattle.format.specs.Values.{signed};
-ghost use Rattle.wire.specs.Answer.{packedAt, longAt, SameIs};
+ghost use Rattle.wire.specs.Answer.{packedAt, longAt, SameIs, TurnedIs};
 
 // A packed number and the place after it; or one that is malformed or cut short (01, Table maps).
 pub enum Packing {
@@ -43,16 +43,47 @@ fn two(a: u8, b: u8) -> u64
     (b as u64) * 256 + (a as u64)
 }
 
-// The eight bytes from at, in a form that a compiler reads at once.
+// Eight bytes as a number, the first the lowest, in a form that a compiler reads at once.
+pub fn eight(a: u8, b: u8, c: u8, d: u8, e: u8, f: u8, g: u8, h: u8) -> u64
+    ensures { λ r. ⌜ r ≡ ((((((h * 256 + g) * 256 + f) * 256 + e) * 256 + d) * 256 + c) * 256 + b) * 256 + a ⌝ }
+{
+    let i = two(a, b);
+    let j = two(c, d);
+    let k = two(e, f);
+    let l = two(g, h);
+    (l * 65536 + k) * 4294967296 + (j * 65536 + i)
+}
+
+// The eight bytes from at.
 pub fn word(s: &[u8], at: usize) -> u64
     requires { ⌜ at + 8 ≤ length (now s) ⌝ }
     ensures { λ r. ⌜ r ≡ fieldAt (now (s .entry)) at 8 ⌝ }
 {
-    let a = two(s[at], s[at + 1]);
-    let b = two(s[at + 2], s[at + 3]);
-    let c = two(s[at + 4], s[at + 5]);
-    let d = two(s[at + 6], s[at + 7]);
-    (d * 65536 + c) * 4294967296 + (b * 65536 + a)
+    eight(
+        s[at],
+        s[at + 1],
+        s[at + 2],
+        s[at + 3],
+        s[at + 4],
+        s[at + 5],
+        s[at + 6],
+        s[at + 7],
+    )
+}
+
+// The number of the same eight bytes in the opposite order.
+pub fn turned(x: u64) -> u64
+    ensures { λ r. ⌜ TurnedIs x r ⌝ }
+{
+    let mut v: u64 = 0;
+    let mut y = x;
+    let mut i: usize = 0;
+    while i < 8 {
+        v = v * 256 + y % 256;
+        y = y / 256;
+        i += 1;
+    }
+    v
 }
 
 // The n bytes at one place are those at another. The last eight are compared at once, some of them again.
