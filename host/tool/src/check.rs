@@ -5,6 +5,7 @@ use crate::input::Source;
 use crate::json;
 use crate::output::Output;
 use crate::progress::Progress;
+use crate::signs::Signs;
 use crate::Status;
 use std::fmt::Write;
 use std::io;

@@ -1,6 +1,6 @@
 //! Floats as C's `printf` prints them by `%g`.
 
-use crate::output::Output;
+use crate::signs::Signs;
 use std::fmt::{self, Write};
 
 /// The digits of a number above 0, rounded, without zeros at the end, and the
@@ -12,7 +12,7 @@ struct Decimal {
 }
 
 /// As C's `%.*g` with so many digits, 1 to 20; how many signs were written.
-pub fn general(n: f64, digits: u32, out: &mut Output) -> usize {
+pub fn general(n: f64, digits: u32, out: &mut impl Signs) -> usize {
     let is_negative = n.is_sign_negative();
     if is_negative {
         out.byte(b'-');
@@ -35,7 +35,7 @@ pub fn general(n: f64, digits: u32, out: &mut Output) -> usize {
     usize::from(is_negative) + length
 }
 
-fn word<const N: usize>(word: &[u8; N], out: &mut Output) -> usize {
+fn word<const N: usize>(word: &[u8; N], out: &mut impl Signs) -> usize {
     out.signs(word);
     N
 }
@@ -167,7 +167,7 @@ fn slow(n: f64, digits: u32) -> Decimal {
 }
 
 /// d.ddde+dd
-fn scientific(decimal: &Decimal, out: &mut Output) -> usize {
+fn scientific(decimal: &Decimal, out: &mut impl Signs) -> usize {
     let digits = decimal.digits();
     let (first, rest) = digits.split_at(digits.len().min(1));
     out.bytes(first);
@@ -185,7 +185,7 @@ fn scientific(decimal: &Decimal, out: &mut Output) -> usize {
 }
 
 /// 0.00ddd, dd.ddd or ddd000
-fn positional(decimal: &Decimal, out: &mut Output) -> usize {
+fn positional(decimal: &Decimal, out: &mut impl Signs) -> usize {
     let digits = decimal.digits();
     let power = decimal.exponent.unsigned_abs() as usize;
     if decimal.exponent < 0 {

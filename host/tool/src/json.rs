@@ -1,8 +1,9 @@
 //! Changes as JSON objects, one a line.
 
-use crate::output::Output;
+use crate::output::{Output, Room};
 use crate::quoted::quoted;
 use crate::show::Table;
+use crate::signs::Signs;
 use crate::sql;
 use std::fmt::Write;
 use tegmeadow::{Cell, Change, ColumnType, Image, Kind, Value};
@@ -145,10 +146,10 @@ fn bytes(bytes: &[u8], key: &[u8], hex_key: &[u8], out: &mut Output) {
 
 /// A JSON string.
 pub fn string(out: &mut Output, text: &str) {
-    quoted(text.as_bytes(), b'"', control, out);
+    quoted::<b'"'>(text.as_bytes(), control, out);
 }
 
-fn control(byte: u8, out: &mut Output) {
+fn control(byte: u8, out: &mut Room) {
     out.signs(b"\\u00");
     out.hex(&[byte]);
 }

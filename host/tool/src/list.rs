@@ -5,6 +5,7 @@ use crate::complain;
 use crate::input::Source;
 use crate::output::Output;
 use crate::progress::Progress;
+use crate::signs::Signs;
 use crate::Status;
 use std::io;
 use tegmeadow::{Entry, Listing, ListingError, Log};

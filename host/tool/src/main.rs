@@ -13,12 +13,14 @@ mod parallel;
 mod progress;
 mod quoted;
 mod show;
+mod signs;
 mod sql;
 
 use args::{Command, Job};
 use input::Source;
 use output::Output;
 use progress::Progress;
+use signs::Signs;
 use std::io::{self, ErrorKind};
 use std::process::ExitCode;
 

@@ -7,8 +7,10 @@ use crate::list;
 use crate::output::Output;
 use crate::parallel;
 use crate::progress::Progress;
+use crate::signs::Signs;
 use crate::sql::{self, Start};
 use crate::Status;
+use std::hint::black_box;
 use std::io;
 use std::ops::Range;
 use tegmeadow::{Change, Listing, Log};
@@ -125,6 +127,7 @@ fn some(
         .and_then(|last| listing.entry(last));
     let mut event = before.map_or(0, |entry| entry.event());
     let mut table = Table::none();
+    fetch(bytes, listing, span.clone());
     for (k, change) in span.clone().zip(Log::new(bytes).changes_in(listing, span)) {
         table.turn_to(bytes, &change);
         if as_json {
@@ -139,6 +142,23 @@ fn some(
         out.settle()?;
     }
     Ok(())
+}
+
+/// Looks at the start of every row of a span. Rows that stand far apart come
+/// from memory at once then; each would be waited for when its turn comes.
+fn fetch(bytes: &[u8], listing: &Listing, span: Range<usize>) {
+    const FAR: usize = 256;
+    const LINE: usize = 64;
+    let byte = |place| bytes.get(place).copied().unwrap_or_default();
+    let (mut sum, mut last) = (0, 0);
+    for entry in span.map_while(|k| listing.entry(k)) {
+        let image = entry.before().or(entry.after()).unwrap_or_default();
+        if image > last + FAR {
+            sum ^= byte(image) ^ byte(image + LINE);
+        }
+        last = image;
+    }
+    black_box(sum);
 }
 
 /// The line that comes once before the changes of an event of a partitioned table.

@@ -1,9 +1,10 @@
 //! A change in the `###` form of `mysqlbinlog -v` (MySQL 9.7), sign for sign.
 
 use crate::float;
-use crate::output::{pair, Output};
+use crate::output::{Output, Room};
 use crate::quoted::quoted;
-use crate::show::Table;
+use crate::show::{Column, Table};
+use crate::signs::{pair, Signs};
 use tegmeadow::{Cell, Change, ColumnType, Image, Kind, Value};
 
 pub fn change(change: &Change<'_>, table: &Table<'_>, out: &mut Output) {
@@ -62,34 +63,41 @@ impl Start {
         }
         Start { signs, length }
     }
+
+    #[inline(always)]
+    fn write(&self, line: &mut Room) {
+        line.some(&self.signs, usize::from(self.length));
+    }
 }
 
 /// A line for each column that the image has.
 fn image(image: Image<'_, '_>, table: &Table<'_>, out: &mut Output) {
     let mut columns = table.columns().iter();
     image.cells().for_each(|cell| {
-        let Some(column) = columns.next() else { return };
+        let Some(Column { start, digits }) = columns.next() else {
+            return;
+        };
         match cell {
             Cell::Absent => {}
-            Cell::Null => {
-                start(&column.start, out);
-                out.signs(b"NULL");
+            Cell::Null => out.room(|line| {
+                start.write(line);
+                line.signs(b"NULL");
+            }),
+            Cell::Stored(_, Value::Text(bytes)) => {
+                out.room(|line| start.write(line));
+                quoted::<b'\''>(bytes, control, out);
             }
-            Cell::Stored(kind, value) => {
-                start(&column.start, out);
-                stored(kind, value, column.digits, out);
-            }
+            Cell::Stored(kind, value) => out.room(|line| {
+                start.write(line);
+                stored(kind, value, *digits, line);
+            }),
         }
     });
 }
 
+/// A value that is no text.
 #[inline(always)]
-fn start(start: &Start, out: &mut Output) {
-    out.some(&start.signs, usize::from(start.length));
-}
-
-#[inline(always)]
-fn stored(kind: ColumnType, value: Value<'_>, digits: u8, out: &mut Output) {
+fn stored(kind: ColumnType, value: Value<'_>, digits: u8, out: &mut Room) {
     match value {
         Value::Integer(n) => integer(kind, n, out),
         Value::Float(n) => float(n, out),
@@ -118,13 +126,13 @@ fn stored(kind: ColumnType, value: Value<'_>, digits: u8, out: &mut Output) {
             time(t, digits, out);
             out.byte(b'\'');
         }
-        Value::Text(bytes) => quoted(bytes, b'\'', control, out),
+        Value::Text(_) => {}
     }
 }
 
 /// A negative number is followed by what its bytes are without a sign.
 #[inline(always)]
-fn integer(kind: ColumnType, n: i64, out: &mut Output) {
+fn integer(kind: ColumnType, n: i64, out: &mut Room) {
     out.signed(n);
     if n < 0 {
         let bits = match kind {
@@ -143,7 +151,7 @@ fn integer(kind: ColumnType, n: i64, out: &mut Output) {
 /// Year, month and day with a sign between them. A year above 9999, which no
 /// server writes, has five digits.
 #[inline]
-pub fn date(date: tegmeadow::Date, between: u8, out: &mut Output) {
+pub fn date(date: tegmeadow::Date, between: u8, out: &mut impl Signs) {
     let [a, b] = pair(date.year / 100);
     let [c, d] = pair(date.year);
     let [e, f] = pair(date.month.into());
@@ -155,7 +163,7 @@ pub fn date(date: tegmeadow::Date, between: u8, out: &mut Output) {
 }
 
 #[inline]
-pub fn datetime(t: tegmeadow::Datetime, digits: u8, out: &mut Output) {
+pub fn datetime(t: tegmeadow::Datetime, digits: u8, out: &mut impl Signs) {
     date(t.date, b'-', out);
     out.byte(b' ');
     clock(t.hour.into(), t.minute, t.second, out);
@@ -163,7 +171,7 @@ pub fn datetime(t: tegmeadow::Datetime, digits: u8, out: &mut Output) {
 }
 
 #[inline]
-pub fn time(t: tegmeadow::Time, digits: u8, out: &mut Output) {
+pub fn time(t: tegmeadow::Time, digits: u8, out: &mut impl Signs) {
     if t.negative {
         out.byte(b'-');
     }
@@ -172,7 +180,7 @@ pub fn time(t: tegmeadow::Time, digits: u8, out: &mut Output) {
 }
 
 #[inline]
-fn clock(hour: u32, minute: u8, second: u8, out: &mut Output) {
+fn clock(hour: u32, minute: u8, second: u8, out: &mut impl Signs) {
     if hour > 99 {
         out.unsigned((hour / 100).into());
     }
@@ -181,7 +189,7 @@ fn clock(hour: u32, minute: u8, second: u8, out: &mut Output) {
 }
 
 #[cold]
-fn control(byte: u8, out: &mut Output) {
+fn control(byte: u8, out: &mut Room) {
     match byte {
         0x08 => out.signs(b"\\b"),
         b'\t' => out.signs(b"\\t"),
@@ -196,7 +204,7 @@ fn control(byte: u8, out: &mut Output) {
 }
 
 /// As C's `%-20g`: six digits, padded to 20 signs.
-fn float(n: f32, out: &mut Output) {
+fn float(n: f32, out: &mut Room) {
     const WIDTH: usize = 20;
     let length = float::general(widened(n), 6, out);
     out.some(&[b' '; WIDTH], WIDTH - length.min(WIDTH));

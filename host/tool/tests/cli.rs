@@ -202,6 +202,29 @@ fn what_can_not_be_read_is_told() {
     }
 }
 
+/// A long file is read in parts, of 1 MiB, by several threads: what is read is
+/// the same as from a pipe, whatever its length.
+#[test]
+fn a_file_is_read_as_a_pipe_is() {
+    const PART: usize = 1 << 20;
+    let log = repeated(&extremes(), 100);
+    assert!(log.len() > 2 * PART + 1);
+    let path = Path::new(env!("CARGO_TARGET_TMPDIR")).join("parts.binlog");
+    let name = path.to_string_lossy();
+    let sizes = [0, 1, PART - 1, PART, PART + 1, 2 * PART, 2 * PART + 1];
+    for size in sizes.into_iter().chain([log.len()]) {
+        let bytes = &log[..size];
+        std::fs::write(&path, bytes).expect("a file");
+        let of_file = run(["check", &name]);
+        let of_pipe = run_on(["check", "/dev/stdin"], bytes);
+        assert_eq!(of_file.status, of_pipe.status, "{size}");
+        let said = text(&of_file.stdout).replace(&*name, "-");
+        assert_eq!(said, format!("-: {}\n", verdict(bytes)), "{size}");
+        assert_eq!(said, text(&of_pipe.stdout).replace("/dev/stdin", "-"));
+    }
+    assert!(run(["show", &name]).stdout == run_on(["show"], &log).stdout);
+}
+
 #[test]
 fn an_empty_input_is_refused() {
     let start = "refused 2 (not a binlog";

@@ -6,7 +6,7 @@ mod evidence;
 #[path = "common/json.rs"]
 mod parsed;
 
-use common::{file, log_004, run, text};
+use common::{file, log_004, log_of_texts, run, run_on, text, texts_of};
 use parsed::{parse, Json};
 use std::path::Path;
 
@@ -99,6 +99,25 @@ fn texts_come_back_byte_for_byte() {
         assert_eq!(cell.get(expected.0), Some(&expected.1), "{byte}");
     }
     assert_eq!(found.len(), 257);
+}
+
+/// Texts of all lengths come back, whatever is escaped in them.
+#[test]
+fn texts_of_all_lengths_come_back() {
+    let ascii: Vec<u8> = (0..0x80).collect();
+    for texts in [&ascii, &ascii[..0x20]].map(texts_of) {
+        let shown = run_on(["show", "--json"], &log_of_texts(&texts)).stdout;
+        let shown = String::from_utf8(shown).expect("UTF-8");
+        assert_eq!(shown.lines().count(), texts.len());
+        for (line, expected) in shown.lines().zip(&texts) {
+            let change = parse(line).unwrap_or_else(|| panic!("{line}"));
+            let Some(Json::Array(cells)) = change.get("after") else {
+                panic!("{line}")
+            };
+            let expected = Json::String(text(expected));
+            assert_eq!(cells[0].get("value"), Some(&expected), "{line}");
+        }
+    }
 }
 
 /// Floats have the digits that give them back, or their bits.

@@ -8,7 +8,9 @@
 
 mod common;
 
-use common::{append, extremes, file, length_at, repeated, run, run_on, text};
+use common::{
+    append, extremes, file, length_at, log_of_texts, repeated, run, run_on, text, texts_of,
+};
 use std::path::{Path, PathBuf};
 use std::process::Command;
 
@@ -227,6 +229,36 @@ fn show_agrees_on_extreme_values() {
         .collect();
     hold("extremes", &shown, &expected);
     assert_eq!(shown.len(), expected.len());
+}
+
+/// A text as mysqlbinlog quotes it, byte by byte.
+fn quoted(text: &[u8]) -> Vec<u8> {
+    let escaped = |byte: u8| match byte {
+        0x08 => b"\\b".to_vec(),
+        b'\t' => b"\\t".to_vec(),
+        b'\n' => b"\\n".to_vec(),
+        0x0c => b"\\f".to_vec(),
+        b'\r' => b"\\r".to_vec(),
+        0..0x20 => format!("\\x{byte:02x}").into_bytes(),
+        b'\'' | b'\\' => vec![b'\\', byte],
+        _ => vec![byte],
+    };
+    let inner: Vec<u8> = text.iter().copied().flat_map(escaped).collect();
+    [b"'", &inner[..], b"'"].concat()
+}
+
+/// Whatever length a text has, and wherever in it something is escaped.
+#[test]
+fn texts_of_all_lengths_are_quoted() {
+    let all: Vec<u8> = (0..=255).collect();
+    for texts in [&all, &all[..0x60], &all[..0x20]].map(texts_of) {
+        let shown = run_on(["show"], &log_of_texts(&texts)).stdout;
+        let start = b"### INSERT INTO `test`.`t`\n### SET\n###   @1=";
+        let change = |text: &Vec<u8>| [start, &quoted(text)[..], b"\n"].concat();
+        let expected: Vec<u8> = texts.iter().flat_map(change).collect();
+        hold("texts", &lines(&shown), &lines(&expected));
+        assert!(shown == expected);
+    }
 }
 
 /// A long log is shown by several threads, in order.

@@ -103,6 +103,50 @@ pub fn append(log: &mut Vec<u8>, mut event: Vec<u8>) {
     log.extend(event.into_iter().chain(sum));
 }
 
+/// A log that writes texts into the one column of a table, `test`.`t`.
+pub fn log_of_texts(texts: &[Vec<u8>]) -> Vec<u8> {
+    let event = |kind: u8, body: Vec<u8>| {
+        let mut event = vec![0; 19];
+        event[4] = kind;
+        event.extend(body);
+        event
+    };
+    let first = std::fs::read(log_004()).expect("the log");
+    let mut log = first[..4 + length_at(&first, 4)].to_vec();
+    let id = [7, 0, 0, 0, 0, 0, 1, 0];
+    // a BLOB of two length bytes, which may be null
+    let table = [&id[..], b"\x04test\0\x01t\0", &[1, 252, 1, 2, 1]];
+    append(&mut log, event(19, table.concat()));
+    let mut rows = [&id[..], &[2, 0, 1, 1]].concat();
+    for text in texts {
+        rows.push(0);
+        rows.extend((text.len() as u16).to_le_bytes());
+        rows.extend(text);
+    }
+    append(&mut log, event(30, rows));
+    log
+}
+
+/// Texts of all lengths up to some hundreds, of bytes that are given: some with
+/// many different ones, some with one that is seldom.
+pub fn texts_of(bytes: &[u8]) -> Vec<Vec<u8>> {
+    let mut state = 1_u32;
+    let mut next = |below: usize| {
+        state = state.wrapping_mul(1_664_525).wrapping_add(1_013_904_223);
+        (state >> 16) as usize % below
+    };
+    let mut texts = Vec::new();
+    for length in 0..400 {
+        texts.push((0..length).map(|_| bytes[next(bytes.len())]).collect());
+        let mut plain = vec![b'x'; length];
+        if let Some(byte) = plain.get_mut(next(length.max(1))) {
+            *byte = bytes[length % bytes.len()];
+        }
+        texts.push(plain);
+    }
+    texts
+}
+
 fn crc32(bytes: &[u8]) -> u32 {
     let step = |crc: u32, _| {
         if crc & 1 == 1 {
