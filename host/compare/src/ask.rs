@@ -108,8 +108,8 @@ impl Asker {
         reader.own(log, truth)
     }
 
-    /// The listing into buffers of many lengths. A buffer is the front of a
-    /// longer one, all of a pattern, so that a number written past it shows.
+    /// The listing into buffers of many lengths, which hold zeros up to
+    /// nowhere, to their middle or to their end, and a pattern after them.
     fn listings(&mut self, reader: &dyn Reader, log: &[u8], truth: &Known) -> Result<(), String> {
         let listing: Vec<u32> = truth
             .iter()
@@ -118,30 +118,43 @@ impl Asker {
             .collect();
         let exact = listing.len();
         for length in [0, exact.saturating_sub(1), exact, exact + 1, exact + 7] {
-            let pattern: Vec<u32> = (0..length as u32 + 8).map(|i| 0xdead_0000 ^ i).collect();
-            let mut whole = pattern.clone();
-            let (lent, _) = whole.split_at_mut(length);
-            let answer = reader.list(log, lent);
-            let mut expected = pattern;
-            let expected_answer = match truth {
-                Err(refusal) => Err(*refusal),
-                Ok(_) if length < exact => Err(NO_ROOM),
-                Ok(truth) => {
-                    expected[..exact].copy_from_slice(&listing);
-                    Ok(truth.counts)
-                }
-            };
-            if expected_answer == Err(NO_ROOM) {
-                self.count(&NO_ROOM);
+            for cleared in [0, length / 2, length] {
+                self.listing_into(reader, log, truth, &listing, length, cleared)?;
             }
-            same(&format!("listing into {length}"), &answer, &expected_answer)?;
-            same(
-                &format!("numbers of a listing into {length}"),
-                &whole,
-                &expected,
-            )?;
         }
         Ok(())
+    }
+
+    /// The listing into a buffer that is the front of a longer one, so that a
+    /// number written past it shows.
+    fn listing_into(
+        &mut self,
+        reader: &dyn Reader,
+        log: &[u8],
+        truth: &Known,
+        listing: &[u32],
+        length: usize,
+        cleared: usize,
+    ) -> Result<(), String> {
+        let mut whole: Vec<u32> = (0..length as u32 + 8).map(|i| 0xdead_0000 ^ i).collect();
+        whole[..cleared].fill(0);
+        let mut expected = whole.clone();
+        let (lent, _) = whole.split_at_mut(length);
+        let answer = reader.list(log, lent);
+        let expected_answer = match truth {
+            Err(refusal) => Err(*refusal),
+            Ok(_) if length < listing.len() => Err(NO_ROOM),
+            Ok(truth) => {
+                expected[..listing.len()].copy_from_slice(listing);
+                Ok(truth.counts)
+            }
+        };
+        if expected_answer == Err(NO_ROOM) {
+            self.count(&NO_ROOM);
+        }
+        let into = format!("listing into {length}, {cleared} of them zeros");
+        same(&into, &answer, &expected_answer)?;
+        same(&format!("numbers of a {into}"), &whole, &expected)
     }
 
     /// As many of `total` numbers as may be asked for: all, or a spread of them.
