@@ -2,7 +2,7 @@
 -- Assumes nothing.
 use mathlib.Core.Path.{_≡_, refl, sym, ap, ap₂, _∙_}
 use mathlib.Core.List.{List, [], _∷_}
-use Prim.Native.Nat.{ℕ, suc, _+_, _*_, _/_, _%_, _^_, _≤_, _<_}
+use Prim.Native.Nat.{ℕ, suc, _+_, _*_, _/_, _%_, _^_, _≤_}
 use native.Mathlib.Nat.{mod-lt, mod-eq-of-lt, div-eq-of-lt, lt-of-le-of-lt}
 use lib.Bits.{bitXor, xor-comm, xor-shr, xor-mod, xor-lt}
 use lib.Dec.{T, lit≤}
@@ -12,7 +12,7 @@ use Rattle.format.specs.Crc.{bitStep, bitSteps}
 use Rattle.words.specs.Words.{on, mix, far, near, next, itself, inverse₁, inverse₂}
 use Rattle.words.proofs.Laws.{steps-split}
 use Rattle.words.proofs.Linear.{Linear, id-linear, xor-linear, comp-linear, xor-equal, vanish, at-mod, kept}
-use Rattle.words.proofs.Carry.{Word, Words, stack, falls, meets, shifts, sum, within, multiple, on-low, on-high, on-meet, mix-linear, mix-shr, mix-lt, carried, falls-are, rest-is}
+use Rattle.words.proofs.Carry.{Word, Words, stack, falls, meets, shifts, sum, within, multiple, on-low, on-high, on-meet, mix-linear, mix-shr, carried, falls-are, rest-is}
 
 -- ---- each is a multiple: its steps come to nothing
 
