@@ -289,17 +289,17 @@ fold-start c s w q hs hc e =
 
 -- the window at the start
 abbrev pub first : ℕ → List ℕ
-first c = set (set (set (set (replicate 3136 0) 61 (c % 256)) 62 (c / 256 % 256)) 63 (c / 65536 % 256)) 64 (c / 16777216)
+first c = set (set (set (set (replicate 2944 0) 61 (c % 256)) 62 (c / 256 % 256)) 63 (c / 65536 % 256)) 64 (c / 16777216)
 
 pub begun : (c : ℕ) → c < 2 ^ 32 → fieldAt (first c) 61 515 ≡ c
 unfolding fieldAt num
 begun c h = omega arith
 
-pub first-filled : (c : ℕ) → c < 2 ^ 32 → Filled 3136 (first c)
+pub first-filled : (c : ℕ) → c < 2 ^ 32 → Filled 2944 (first c)
 first-filled c h =
     filled-set _ 64 (c / 16777216)
     (filled-set _ 63 (c / 65536 % 256)
-    (filled-set _ 62 (c / 256 % 256) (filled-set _ 61 (c % 256) (filled-none 3136) (omega arith)) (omega arith)) (omega arith))
+    (filled-set _ 62 (c / 256 % 256) (filled-set _ 61 (c % 256) (filled-none 2944) (omega arith)) (omega arith)) (omega arith))
     (omega arith)
 
 -- what 515 bytes make

@@ -10,7 +10,7 @@ use lib.Bits.{bitXor, xor-block, xor-comm, xor-shr, xor-mod, xor-lt, xor-zero-r}
 use lib.Dec.{T, leb, ltb, leb→le}
 use lib.ListN.{length}
 use lib.Pow.{pow-pos, pow-add, pow-mono, split, high, low, shl-shr, shr-shr, shr-le}
-use borrow.Author.Tests.{ltb-true, ltb-false, leb-true, leb-false}
+use borrow.Author.Tests.{ltb-false, leb-true, leb-false}
 use Rattle.format.specs.Crc.{bitSteps}
 use Rattle.words.specs.Words.{on, mix}
 use Rattle.words.proofs.Laws.{xor-assoc, xor-swap, steps-xor, steps-shifted, steps-add, steps-split}

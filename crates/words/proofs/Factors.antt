@@ -3,8 +3,8 @@
 use mathlib.Core.Path.{_≡_, refl, sym, ap, ap₂, _∙_}
 use mathlib.Core.List.{List, [], _∷_, _++_}
 use Prim.Native.Nat.{ℕ, zero, suc, _+_, _*_, _/_, _%_, _^_}
-use native.Mathlib.Nat.{mul-assoc, mul-one, div-one, mod-eq-of-lt, zero-add, add-comm}
-use lib.Bits.{bitXor, xor-self, xor-shr, xor-mod, xor-zero-r}
+use native.Mathlib.Nat.{mul-assoc, mul-one, div-one, mod-eq-of-lt}
+use lib.Bits.{bitXor, xor-self, xor-shr, xor-mod}
 use lib.Pow.{pow-add, shr-shr}
 use Rattle.words.specs.Words.{mix}
 use Rattle.words.proofs.Laws.{xor-assoc}

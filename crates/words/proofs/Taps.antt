@@ -2,23 +2,27 @@
 -- Assumes nothing.
 use mathlib.Core.Path.{_≡_, refl, sym, ap, ap₂, _∙_}
 use mathlib.Core.List.{List, [], _∷_}
-use Prim.Native.Nat.{ℕ, suc, _+_, _*_, _/_, _%_, _^_, _≤_, _<_}
+use Prim.Native.Nat.{ℕ, suc, _+_, _*_, _/_, _%_, _^_, _≤_}
 use native.Mathlib.Nat.{mod-lt, mod-eq-of-lt, div-eq-of-lt, lt-of-le-of-lt}
 use lib.Bits.{bitXor, xor-comm, xor-shr, xor-mod, xor-lt}
 use lib.Dec.{T, lit≤}
 use lib.ListN.{length}
 use lib.Pow.{pow-pos, shl-shr, shr-shr, shr-le}
 use Rattle.format.specs.Crc.{bitStep, bitSteps}
-use Rattle.words.specs.Words.{on, mix, far, near, next, itself, inverse₁, inverse₂}
+use Rattle.words.specs.Words.{on, mix, far, middle, near, next, itself, inverse₁, inverse₂}
 use Rattle.words.proofs.Laws.{steps-split}
 use Rattle.words.proofs.Linear.{Linear, id-linear, xor-linear, comp-linear, xor-equal, vanish, at-mod, kept}
-use Rattle.words.proofs.Carry.{Word, Words, stack, falls, meets, shifts, sum, within, multiple, on-low, on-high, on-meet, mix-linear, mix-shr, mix-lt, carried, falls-are, rest-is}
+use Rattle.words.proofs.Carry.{Word, Words, stack, falls, meets, shifts, sum, within, multiple, on-low, on-high, on-meet, mix-linear, mix-shr, carried, falls-are, rest-is}
 
 -- ---- each is a multiple: its steps come to nothing
 
 far-gone : bitSteps 269 (multiple far 256 1) ≡ 0
 unfolding bitSteps bitStep mix
 far-gone = refl
+
+middle-gone : bitSteps 243 (multiple middle 256 1) ≡ 0
+unfolding bitSteps bitStep mix
+middle-gone = refl
 
 near-gone : bitSteps 128 (multiple near 128 1) ≡ 0
 unfolding bitSteps bitStep mix
@@ -45,6 +49,11 @@ far-push a b c d e w ha hb hc hd he hw M R hM =
     ap (λ (y : ℕ). bitSteps M (stack (meets far a (b ∷ c ∷ d ∷ e ∷ [])) y))
     (sym (on-meet w R (a / 2 ^ 20) hw (lt-of-le-of-lt (shr-le a 20) ha)))
     ∙ pushed far (b ∷ c ∷ d ∷ e ∷ []) 268 tt far-gone a ha (hb, (hc, (hd, (he, tt)))) M hM (on w R)
+
+pub middle-push : (a b c d e : ℕ) → Word a → Word b → Word c → Word d → Word e
+    → bitSteps 256 (stack (meets middle a (b ∷ c ∷ d ∷ e ∷ [])) (sum (shifts 0 middle a))) ≡ bitSteps 320 (on a (on b (on c (on d (on e 0)))))
+middle-push a b c d e ha hb hc hd he =
+    pushed middle (b ∷ c ∷ d ∷ e ∷ []) 242 tt middle-gone a ha (hb, (hc, (hd, (he, tt)))) 256 (lit≤ tt) 0
 
 pub near-push : (a b c w : ℕ) → Word a → Word b → Word c → Word w → (M R : ℕ) → 127 ≤ M
     → bitSteps M (stack (meets near a (b ∷ bitXor w c ∷ [])) (bitXor R (sum (shifts 0 near a))))

@@ -118,17 +118,22 @@ fn last_two(a: u64, b: u64, c: u64) -> u64
     last_one(next_low(a) ^ b) ^ (next_high(a) ^ c)
 }
 
-// The last five words.
+// The last five words. The first is carried by a multiple that ends with them.
 fn last_five(f: Five) -> u64
     ensures { λ r. ⌜ r ≡ bitSteps 320 (five f 0) ⌝ }
 {
+    let a = f.a;
+    let low = a << 7;
+    let high = a >> 57;
     let t = Two {
-        a: f.a,
-        b: f.b,
+        a: f.b,
+        b: f.c ^ (a << 53),
         c: 0,
     };
-    let r = carry_near(carry_near(carry_near(t, f.c), f.d), f.e);
-    last_two(r.a, r.b, r.c)
+    let d = f.d ^ ((a << 63) ^ (low ^ (a >> 11)));
+    let e = f.e ^ ((a << 18) ^ (low ^ ((a >> 1) ^ high)));
+    let r = carry_near(carry_near(t, d), e);
+    last_two(r.a, r.b, ((a >> 46) ^ high) ^ r.c)
 }
 
 // Two words and then the bytes from at.

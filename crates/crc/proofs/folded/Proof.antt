@@ -22,7 +22,7 @@ use Rattle.crc.proofs.fold.take.Reads as take-reads
 
 abbrev Inv-loop : tie.InvT-loop
 Inv-loop c s w₀ q₀ p₀ w q p =
-    (p + 515 ≤ length s) × (q ≤ 2109) × (q % 256 ≡ 61) × Filled 3136 w × (register s w p q ≡ crcFrom c s)
+    (p + 515 ≤ length s) × (q ≤ 2109) × (q % 64 ≡ 61) × Filled 2944 w × (register s w p q ≡ crcFrom c s)
 
 abbrev μ-loop : tie.MeasureT-loop
 μ-loop c s w₀ q₀ p₀ w q p = length s - p
@@ -112,7 +112,7 @@ clear-requires c κs = search needs
 pay-requires : tie.Need-pay-requires Inv-loop μ-loop
 pay-requires c κs =
     let l = c .before .before .before .before .before .loop in
-    (filled-none 771, (c .before .before .clear .ensures .0, ((search needs, search needs, search needs), small (l .w) (l .q) (bytes-of (l .inv .3)) (c .before .before .clear .ensures .1))))
+    (filled-none 579, (c .before .before .clear .ensures .0, ((search needs, search needs, search needs), small (l .w) (l .q) (bytes-of (l .inv .3)) (c .before .before .clear .ensures .1))))
 
 -- src/lib.rt:297:13
 sub-n : tie.Need-sub-n Inv-loop μ-loop
@@ -128,7 +128,7 @@ slice-aggregate-after c =
     let s = c .before .before .before .before .before .before .before .before .before .args .s .now in
     let l = c .before .before .before .before .before .before .before .loop in
     let f = c .before .pay .ensures .0 in
-    let n : length (c .before .pay .last .0) ≡ 771 = f .size in
+    let n : length (c .before .pay .last .0) ≡ 579 = f .size in
     sym (length-take-le (length s - l .p) (c .before .pay .last .0) (omega arith))
 
 -- src/lib.rt:298:5
@@ -142,8 +142,8 @@ returns c =
     let s = a .s .now in
     let l = c .before .before .before .before .before .before .before .before .loop in
     let r = c .before .before .pay .last .0 in
-    let f : Filled 771 r = c .before .before .pay .ensures .0 in
-    let n : length r ≡ 771 = f .size in
+    let f : Filled 579 r = c .before .before .pay .ensures .0 in
+    let n : length r ≡ 579 = f .size in
     c .after .ensures
     ∙ fold-end s (l .w) r (l .p) (l .q) (length s - l .p) (a .c) (bytes-of f) (omega arith) refl
     (c .before .before .pay .ensures .1 ∙ ap (λ (y : ℕ). bitXor (mix folds y) (num (drop (l .p) s))) (c .before .before .before .before .before .clear .ensures .1))

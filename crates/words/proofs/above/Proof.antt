@@ -1,7 +1,6 @@
 use Rattle.words.proofs.Factors.{it, moved, both, flat-down, mix-sum}
 use Rattle.words.specs.Words.{itself}
 use mathlib.Core.Path.{sym, _∙_}
-use borrow.Author.Needs.{needs}
 use Rattle.words.proofs.above.Statement.{statement}
 use Rattle.words.proofs.above.Tie as tie
 use Rattle.words.proofs.above.Reads as reads

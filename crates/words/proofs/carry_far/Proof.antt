@@ -1,6 +1,4 @@
 use Rattle.words.proofs.Taps.{far-push}
-use Prim.Native.Nat.{ℕ}
-use borrow.Author.Needs.{needs}
 use Rattle.words.proofs.carry_far.Statement.{statement}
 use Rattle.words.proofs.carry_far.Tie as tie
 use Rattle.words.proofs.carry_far.Reads as reads

@@ -1,5 +1,4 @@
 use Rattle.words.proofs.Taps.{near-push}
-use borrow.Author.Needs.{needs}
 use Rattle.words.proofs.carry_near.Statement.{statement}
 use Rattle.words.proofs.carry_near.Tie as tie
 use Rattle.words.proofs.carry_near.Reads as reads

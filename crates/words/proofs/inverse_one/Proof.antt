@@ -2,7 +2,6 @@ use Rattle.words.proofs.Carry.{shifts-are}
 use Rattle.words.specs.Words.{inverse₁}
 use lib.Bits.{bitXor}
 use mathlib.Core.Path.{sym, ap}
-use borrow.Author.Needs.{needs}
 use Rattle.words.proofs.inverse_one.Statement.{statement}
 use Rattle.words.proofs.inverse_one.Tie as tie
 use Rattle.words.proofs.inverse_one.Reads as reads

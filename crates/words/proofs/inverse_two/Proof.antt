@@ -3,7 +3,6 @@ use Rattle.words.proofs.Carry.{shifts-are}
 use Rattle.words.specs.Words.{inverse₂}
 use lib.Bits.{bitXor}
 use mathlib.Core.Path.{sym, ap, _∙_}
-use borrow.Author.Needs.{needs}
 use Rattle.words.proofs.inverse_two.Statement.{statement}
 use Rattle.words.proofs.inverse_two.Tie as tie
 use Rattle.words.proofs.inverse_two.Reads as reads

@@ -1,7 +1,6 @@
 use Rattle.words.proofs.Factors.{it, moved, both, flat-down, mix-sum}
 use Rattle.words.specs.Words.{next}
 use mathlib.Core.Path.{sym, _∙_}
-use borrow.Author.Needs.{needs}
 use Rattle.words.proofs.next_high.Statement.{statement}
 use Rattle.words.proofs.next_high.Tie as tie
 use Rattle.words.proofs.next_high.Reads as reads

@@ -2,7 +2,6 @@ use Rattle.words.proofs.Factors.{it, moved, both, flat-up}
 use Rattle.words.proofs.Carry.{shifts-are}
 use Rattle.words.specs.Words.{next}
 use mathlib.Core.Path.{sym, _∙_}
-use borrow.Author.Needs.{needs}
 use Rattle.words.proofs.next_low.Statement.{statement}
 use Rattle.words.proofs.next_low.Tie as tie
 use Rattle.words.proofs.next_low.Reads as reads

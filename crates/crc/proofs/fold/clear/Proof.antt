@@ -14,10 +14,10 @@ use Rattle.crc.proofs.fold.clear.Lts as lts
 
 abbrev Inv-loop : tie.InvT-loop
 Inv-loop w₀ q i₀ w i =
-    (q + 515 ≤ i) × (i ≤ 3136) × Filled 3136 w × (fieldAt w q (i - q) ≡ fieldAt w₀ q 515)
+    (q + 515 ≤ i) × (i ≤ 2944) × Filled 2944 w × (fieldAt w q (i - q) ≡ fieldAt w₀ q 515)
 
 abbrev μ-loop : tie.MeasureT-loop
-μ-loop w₀ q i₀ w i = 3136 - i
+μ-loop w₀ q i₀ w i = 2944 - i
 
 -- src/fold.rt:52:24
 add-i : tie.Need-add-i Inv-loop μ-loop
@@ -47,8 +47,8 @@ loop-again : tie.Need-loop-again Inv-loop μ-loop
 loop-again c =
     let q = c .before .before .args .q in
     let l = c .before .loop in
-    let f : Filled 3136 (l .w) = l .inv .2 in
-    let n : length (l .w) ≡ 3136 = f .size in
+    let f : Filled 2944 (l .w) = l .inv .2 in
+    let n : length (l .w) ≡ 2944 = f .size in
     (search needs, search needs, filled-set (l .w) (l .i) 0 f (lit< tt), clear-turn (l .w) q (l .i) (omega arith) (omega arith) ∙ l .inv .3)
 
 -- src/fold.rt:48:1
@@ -56,8 +56,8 @@ returns : tie.Need-returns Inv-loop μ-loop
 returns c =
     let q = c .before .before .args .q in
     let l = c .before .loop in
-    let f : Filled 3136 (l .w) = l .inv .2 in
-    let n : length (l .w) ≡ 3136 = f .size in
+    let f : Filled 2944 (l .w) = l .inv .2 in
+    let n : length (l .w) ≡ 2944 = f .size in
     (f, sym (field-all (l .w) q (l .i - q) (omega arith)) ∙ l .inv .3)
 
 pub clear-spec : {M : Type 1} → statement M

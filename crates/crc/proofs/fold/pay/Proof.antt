@@ -14,7 +14,7 @@ use Rattle.crc.proofs.fold.pay.Lts as lts
 
 abbrev Inv-loop : tie.InvT-loop
 Inv-loop r₀ w q s p n i₀ r i =
-    (i ≤ n) × Filled 771 r × (Left s w (p + i) (q + i) * 2 ^ (8 * i) + fieldAt r 0 i ≡ Left s w p q)
+    (i ≤ n) × Filled 579 r × (Left s w (p + i) (q + i) * 2 ^ (8 * i) + fieldAt r 0 i ≡ Left s w p q)
 
 abbrev μ-loop : tie.MeasureT-loop
 μ-loop r₀ w q s p n i₀ r i = n - i
@@ -89,10 +89,10 @@ loop-again c =
     let s = a .s .now in
     let w = a .w .now in
     let bs = c .shared-slice-known .given in
-    let f : Filled 771 (l .r) = l .inv .1 in
-    let n : length (l .r) ≡ 771 = f .size in
-    let g : Filled 3136 w = search needs in
-    let m : length w ≡ 3136 = g .size in
+    let f : Filled 579 (l .r) = l .inv .1 in
+    let n : length (l .r) ≡ 579 = f .size in
+    let g : Filled 2944 w = search needs in
+    let m : length w ≡ 2944 = g .size in
     let k = a .q + l .i in
     let x = bitXor (fallen w k) (getD s (a .p + l .i) 0) in (
       search needs,
@@ -108,8 +108,8 @@ returns c =
     let l = c .before .loop in
     let s = a .s .now in
     let w = a .w .now in
-    let g : Filled 3136 w = search needs in
-    let m : length w ≡ 3136 = g .size in
+    let g : Filled 2944 w = search needs in
+    let m : length w ≡ 2944 = g .size in
     let e : l .i ≡ length s - a .p = omega arith in (
       l .inv .1,
       ap (fieldAt (l .r) 0) (sym e)

@@ -13,7 +13,7 @@ use Rattle.crc.proofs.fold.shift.Lts as lts
 
 abbrev Inv-loop : tie.InvT-loop
 Inv-loop w₀ i₀ w i =
-    (i ≤ 515) × Filled 3136 w × (fieldAt w 61 i ≡ fieldAt w₀ 2109 i) × (drop 2109 w ≡ drop 2109 w₀) × (length w₀ ≡ 3136)
+    (i ≤ 515) × Filled 2944 w × (fieldAt w 61 i ≡ fieldAt w₀ 2109 i) × (drop 2109 w ≡ drop 2109 w₀) × (length w₀ ≡ 2944)
 
 abbrev μ-loop : tie.MeasureT-loop
 μ-loop w₀ i₀ w i = 515 - i
@@ -52,9 +52,9 @@ loop-again : tie.Need-loop-again Inv-loop μ-loop
 loop-again c =
     let w₀ = c .before .before .before .args .w .now in
     let l = c .before .before .loop in
-    let f : Filled 3136 (l .w) = l .inv .1 in
-    let n : length (l .w) ≡ 3136 = f .size in
-    let n₀ : length w₀ ≡ 3136 = l .inv .4 in
+    let f : Filled 2944 (l .w) = l .inv .1 in
+    let n : length (l .w) ≡ 2944 = f .size in
+    let n₀ : length w₀ ≡ 2944 = l .inv .4 in
     let t = move-turn w₀ (l .w) 61 2109 (l .i) (l .inv .2) (l .inv .3) (omega arith) (omega arith) (omega arith) in
     (search needs, filled-set (l .w) (61 + l .i) (getD (l .w) (2109 + l .i) 0) f (f .each (2109 + l .i)), t .0, t .1, n₀)
 

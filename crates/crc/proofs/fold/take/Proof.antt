@@ -14,10 +14,10 @@ use Rattle.crc.proofs.fold.take.Lts as lts
 
 abbrev Inv-loop : tie.InvT-loop
 Inv-loop w₀ q s p i₀ w i =
-    (i ≤ 256) × Filled 3136 w × (register s w (p + i) (q + i) ≡ register s w₀ p q)
+    (i ≤ 64) × Filled 2944 w × (register s w (p + i) (q + i) ≡ register s w₀ p q)
 
 abbrev μ-loop : tie.MeasureT-loop
-μ-loop w₀ q s p i₀ w i = 256 - i
+μ-loop w₀ q s p i₀ w i = 64 - i
 
 -- src/fold.rt:17:5
 loop-holds : tie.Need-loop-holds Inv-loop μ-loop
@@ -88,8 +88,8 @@ loop-again c =
     let l = c .before .before .before .before .before .before .loop in
     let s = a .s .now in
     let bs = c .shared-slice-known .given in
-    let f : Filled 3136 (l .w) = l .inv .1 in
-    let n : length (l .w) ≡ 3136 = f .size in
+    let f : Filled 2944 (l .w) = l .inv .1 in
+    let n : length (l .w) ≡ 2944 = f .size in
     let k = a .q + l .i in
     let x = bitXor (fallen (l .w) k) (getD s (a .p + l .i) 0) in (
       search needs,
@@ -103,7 +103,7 @@ returns : tie.Need-returns Inv-loop μ-loop
 returns c =
     let a = c .before .before .args in
     let l = c .before .loop in
-    let e : l .i ≡ 256 = omega arith in
+    let e : l .i ≡ 64 = omega arith in
     (l .inv .1, ap (λ (k : ℕ). register (a .s .now) (l .w) (a .p + k) (a .q + k)) (sym e) ∙ l .inv .2)
 
 pub take-spec : {M : Type 1} → statement M
