@@ -21,11 +21,14 @@ fn zlib(bytes: &[u8]) -> u32 {
     unsafe { crc32(0, bytes.as_ptr(), bytes.len() as u32) as u32 }
 }
 
+/// A job, which may use the buffer.
+type Run<'a> = Box<dyn FnMut(&mut [u32]) -> u64 + 'a>;
+
 /// One way to do a job on a log; it answers a number, so that ways can be compared and none is left out by the compiler.
 struct Way<'a> {
     /// Whether the buffer is cleared before, outside of the time taken. A listing may depend on it.
     clears: bool,
-    run: Box<dyn FnMut(&mut [u32]) -> u64 + 'a>,
+    run: Run<'a>,
 }
 
 /// A way that uses no buffer, or one as it was left.
