@@ -21,16 +21,35 @@ fn zlib(bytes: &[u8]) -> u32 {
     unsafe { crc32(0, bytes.as_ptr(), bytes.len() as u32) as u32 }
 }
 
-/// One way to do a job on a log; it answers a number, so that ways can be compared and none is left out by the compiler.
-type Way<'a> = (&'static str, Box<dyn FnMut() -> u64 + 'a>);
+/// A job, which may use the buffer.
+type Run<'a> = Box<dyn FnMut(&mut [u32]) -> u64 + 'a>;
 
-/// The best time of each way, and what each answered; the ways take turns.
-fn race(ways: &mut [Way]) -> Vec<(Duration, u64)> {
-    let mut best = vec![(Duration::MAX, 0); ways.len()];
+/// One way to do a job on a log; it answers a number, so that ways can be compared and none is left out by the compiler.
+struct Way<'a> {
+    /// Whether the buffer is cleared before, outside of the time taken. A listing may depend on it.
+    clears: bool,
+    run: Run<'a>,
+}
+
+/// A way that uses no buffer, or one as it was left.
+fn way<'a>(run: impl FnMut(&mut [u32]) -> u64 + 'a) -> Way<'a> {
+    Way { clears: false, run: Box::new(run) }
+}
+
+fn cleared<'a>(run: impl FnMut(&mut [u32]) -> u64 + 'a) -> Way<'a> {
+    Way { clears: true, ..way(run) }
+}
+
+/// The best time of each way, and what each answered; the ways take turns, and have one buffer.
+fn race<const N: usize>(mut ways: [Way; N], buffer: &mut [u32]) -> [(Duration, u64); N] {
+    let mut best = [(Duration::MAX, 0); N];
     for _ in 0..ROUNDS {
         for (way, best) in ways.iter_mut().zip(&mut best) {
+            if way.clears {
+                buffer.fill(0);
+            }
             let start = Instant::now();
-            let answer = black_box(way.1());
+            let answer = black_box((way.run)(buffer));
             *best = (best.0.min(start.elapsed()), answer);
         }
     }
@@ -112,46 +131,57 @@ fn same(a: (Duration, u64), b: (Duration, u64)) -> f64 {
     a.0.as_secs_f64() / b.0.as_secs_f64()
 }
 
-/// The questions on one log: check against zlib and the second reader, listing and all values against the second reader.
-fn questions(shape: &logs::Shape) {
+/// Both readers' listing of a log that is sound must be the same.
+fn compare_listings(log: &[u8], changes: usize) {
+    let mut listings = [vec![0; 5 * changes], vec![0; 5 * changes]];
+    let [verified, second] = &mut listings;
+    tegmeadow::Log::new(log).list(verified).expect("the log is sound");
+    second::list(log, second).expect("the log is sound");
+    assert!(verified == second, "the listings differ");
+}
+
+/// The questions on one log: check against zlib and the second reader, listing and all values against the second reader. What it
+/// answers is the ratio of a listing into a buffer that was not cleared.
+fn questions(shape: &logs::Shape) -> f64 {
     let log = logs::make(shape, SEED, &zlib);
     let counts = second::check(&log).expect("the log is sound");
-    let mut out = vec![0; 5 * counts.changes];
-    let mut other = out.clone();
+    compare_listings(&log, counts.changes);
     let both = |c: usize, e: usize| (c + e) as u64;
-    let times = race(&mut [
-        ("zlib", Box::new(|| zlib(&log) as u64)),
-        ("check", Box::new(|| tegmeadow::Log::new(&log).check().map_or(0, |c| both(c.changes, c.events)))),
-        ("second check", Box::new(|| second::check(&log).map_or(0, |c| both(c.changes, c.events)))),
-        ("list", Box::new(|| tegmeadow::Log::new(&log).list(&mut out).map_or(0, |c| both(c.changes, c.events)))),
-        ("second list", Box::new(|| second::list(&log, &mut other).map_or(0, |c| both(c.changes, c.events)))),
-        ("values", Box::new(|| verified_values(&log))),
-        ("second values", Box::new(|| second_values(&log))),
-    ]);
-    assert!(out == other, "the listings differ");
+    let list = |out: &mut [u32]| tegmeadow::Log::new(&log).list(out).map_or(0, |c| both(c.changes, c.events));
+    let [crc, check, second_check, listing, second_listing, not_cleared, values, second_values] = race(
+        [
+            way(|_| zlib(&log) as u64),
+            way(|_| tegmeadow::Log::new(&log).check().map_or(0, |c| both(c.changes, c.events))),
+            way(|_| second::check(&log).map_or(0, |c| both(c.changes, c.events))),
+            cleared(list),
+            cleared(|out| second::list(&log, out).map_or(0, |c| both(c.changes, c.events))),
+            way(list),
+            way(|_| verified_values(&log)),
+            way(|_| second_values(&log)),
+        ],
+        &mut vec![0; 5 * counts.changes],
+    );
     let mib = log.len() as f64 / (1 << 20) as f64;
     println!(
         "| {}, {:.0} MiB, {} changes | {:.0} MiB/s | {:.2} | {:.2} | {:.2} | {:.2} |",
         shape.name,
         mib,
         counts.changes,
-        mib / times[1].0.as_secs_f64(),
-        times[1].0.as_secs_f64() / times[0].0.as_secs_f64(),
-        same(times[1], times[2]),
-        same(times[3], times[4]),
-        same(times[5], times[6]),
+        mib / check.0.as_secs_f64(),
+        check.0.as_secs_f64() / crc.0.as_secs_f64(),
+        same(check, second_check),
+        same(listing, second_listing),
+        same(values, second_values),
     );
+    same(not_cleared, second_listing)
 }
 
 /// Time for 64 MiB over time for 8 MiB.
 fn linear() {
     let made = logs::two_sizes().map(|shape| logs::make(&shape, SEED, &zlib));
     let [small, large] = &made;
-    let times = race(&mut [
-        ("8 MiB", Box::new(|| verified_values(small))),
-        ("64 MiB", Box::new(|| verified_values(large))),
-    ]);
-    println!("\nall values, 64 MiB over 8 MiB: {:.2}", times[1].0.as_secs_f64() / times[0].0.as_secs_f64());
+    let [small, large] = race([way(|_| verified_values(small)), way(|_| verified_values(large))], &mut []);
+    println!("\nall values, 64 MiB over 8 MiB: {:.2}", large.0.as_secs_f64() / small.0.as_secs_f64());
 }
 
 /// The time of a command, output to nowhere; none where it fails.
@@ -184,7 +214,8 @@ fn show(tool: &str, folder: &Path) {
 fn main() {
     println!("| log | check | check / zlib crc32 | check / second | listing / second | all values / second |");
     println!("|---|---|---|---|---|---|");
-    logs::shapes().iter().for_each(questions);
+    let not_cleared: Vec<String> = logs::shapes().iter().map(|shape| format!("{} {:.2}", shape.name, questions(shape))).collect();
+    println!("\nlisting, not cleared / second: {}", not_cleared.join(", "));
     linear();
     let words: Vec<String> = std::env::args().collect();
     if let [_, tool, folder] = &words[..] {

@@ -22,7 +22,7 @@ pub fn quoted<const QUOTE: u8>(bytes: &[u8], control: Control, out: &mut Output)
     }
     out.room(|room| {
         match left.len() {
-            0..16 => few::<QUOTE>(left, control, room),
+            0..=15 => few::<QUOTE>(left, control, room),
             _ => rest::<QUOTE>(left, control, room),
         }
         room.byte(QUOTE);
@@ -32,17 +32,17 @@ pub fn quoted<const QUOTE: u8>(bytes: &[u8], control: Control, out: &mut Output)
 #[inline(always)]
 fn escaped(byte: u8, control: Control, room: &mut Room) {
     match byte {
-        0..0x20 => control(byte, room),
+        0..=0x1f => control(byte, room),
         _ => room.signs(&[b'\\', byte]),
     }
 }
 
-/// The first bytes of two blocks: a block, or as many as there are. Of each run
-/// with nothing to escape a whole block is copied, which is quicker than to
-/// copy no more than it has; so there must be a second.
+/// The first bytes of two blocks, 1 to 64. Of each run with nothing to escape a
+/// whole block is copied, which is quicker than to copy no more than it has; so
+/// there must be a second.
 #[inline(always)]
 fn block<const QUOTE: u8>(two: &[u8; 2 * BLOCK], length: usize, control: Control, room: &mut Room) {
-    let mut marks = marks::<QUOTE>(two) & u64::MAX.unbounded_shr((BLOCK - length) as u32);
+    let mut marks = marks::<QUOTE>(two) & (u64::MAX >> (BLOCK - length));
     let mut start = 0;
     while let Some(run) = two.get(start..).and_then(<[u8]>::first_chunk::<BLOCK>) {
         let end = (marks.trailing_zeros() as usize).min(length);
@@ -68,9 +68,10 @@ fn marks<const QUOTE: u8>(two: &[u8; 2 * BLOCK]) -> u64 {
         *flag = if is_escaped { 0xff } else { 0 };
     }
     let mut marks = 0;
-    for (k, eight) in flags.as_chunks::<8>().0.iter().enumerate() {
+    for (k, eight) in flags.chunks_exact(8).enumerate() {
+        let eight = eight.first_chunk().copied().unwrap_or_default();
         // of each byte another bit; their sum is the highest byte of the product
-        let bits = u64::from_le_bytes(*eight) & 0x8040_2010_0804_0201;
+        let bits = u64::from_le_bytes(eight) & 0x8040_2010_0804_0201;
         marks |= (bits.wrapping_mul(ONES) >> 56) << (8 * k);
     }
     marks

@@ -239,7 +239,7 @@ fn quoted(text: &[u8]) -> Vec<u8> {
         b'\n' => b"\\n".to_vec(),
         0x0c => b"\\f".to_vec(),
         b'\r' => b"\\r".to_vec(),
-        0..0x20 => format!("\\x{byte:02x}").into_bytes(),
+        0..=0x1f => format!("\\x{byte:02x}").into_bytes(),
         b'\'' | b'\\' => vec![b'\\', byte],
         _ => vec![byte],
     };
