@@ -100,6 +100,9 @@ uint32_t tegmeadow_check(const uint8_t *log, size_t log_len, size_t *place,
  * Which rows changed?  Answers as check does and, where accepted, writes the
  * listing into `out`, which has `out_len` numbers; those past the listing
  * stay as they were.  20 where 5 times the changes is more than `out_len`.
+ * A buffer of zeros is filled in one walk of the log, any other in two.
+ * Where refused, all of it is as it was when the call returns; entries may
+ * have stood in place of zeros meanwhile.
  */
 uint32_t tegmeadow_list(const uint8_t *log, size_t log_len, uint32_t *out,
                         size_t out_len, size_t *place, size_t *events,

@@ -45,6 +45,7 @@ impl ColumnType {
 
 /// A day; month and day may be 0.
 #[derive(Clone, Copy, Debug, PartialEq, Eq, PartialOrd, Ord, Hash)]
+#[repr(align(8))]
 pub struct Date {
     pub year: u32,
     pub month: u8,
@@ -53,6 +54,7 @@ pub struct Date {
 
 /// Seconds since 1970 began, in UTC.
 #[derive(Clone, Copy, Debug, PartialEq, Eq, PartialOrd, Ord, Hash)]
+#[repr(align(8))]
 pub struct Timestamp {
     pub seconds: u32,
     pub microseconds: u32,
@@ -60,6 +62,7 @@ pub struct Timestamp {
 
 /// A day and a time of it, in no time zone.
 #[derive(Clone, Copy, Debug, PartialEq, Eq, PartialOrd, Ord, Hash)]
+#[repr(align(8))]
 pub struct Datetime {
     pub date: Date,
     pub hour: u8,
@@ -70,6 +73,7 @@ pub struct Datetime {
 
 /// A span of time, up to 838 hours to either side.
 #[derive(Clone, Copy, Debug, PartialEq, Eq, Hash)]
+#[repr(align(8))]
 pub struct Time {
     pub negative: bool,
     pub hour: u32,

@@ -10,12 +10,12 @@ use crate::log::{Counts, Entry};
 use std::borrow::Cow;
 use std::rc::Rc;
 
-/// Cells of a block, and read at a time: a few, so that they stay near.
-const BLOCK: usize = 256;
+/// Cells that are read at a time: a few, so that they stay near.
+const BLOCK: usize = 128;
 
 /// Changes that are read at a time however many cells they have: the library
 /// looks at a table map once a call.
-const TOGETHER: usize = 4;
+const TOGETHER: usize = 16;
 
 /// What a change does to its row.
 #[derive(Clone, Copy, Debug, PartialEq, Eq, Hash)]
@@ -31,16 +31,17 @@ pub struct Changes<'a> {
     counts: Counts,
     /// The listing numbers of the changes.
     numbers: Cow<'a, [u32]>,
-    /// The changes given out.
+    /// The numbers of the changes given out.
     next: usize,
-    /// The tables of the changes of the block, the first that of `first`.
-    tables: Vec<Table>,
-    first: usize,
-    block: Rc<Vec<CellNumbers>>,
-    /// The cells of the block that were given out.
+    /// The cells of changes of one table, and the place of its map.
+    block: Rc<[CellNumbers]>,
+    table: Table,
+    map: u32,
+    /// The first cell that was not given out, the changes that were not, and
+    /// the cells of each.
     given: usize,
-    /// The last table asked for, and the place of its map.
-    last: (u32, Table),
+    left: usize,
+    size: usize,
 }
 
 impl<'a> Changes<'a> {
@@ -50,11 +51,12 @@ impl<'a> Changes<'a> {
             counts,
             numbers,
             next: 0,
-            tables: Vec::new(),
-            first: 0,
-            block: Rc::new(Vec::new()),
+            block: Rc::new([]),
+            table: Table::default(),
+            map: 0,
             given: 0,
-            last: (0, Table::default()),
+            left: 0,
+            size: 0,
         }
     }
 
@@ -63,74 +65,37 @@ impl<'a> Changes<'a> {
         self.counts
     }
 
-    /// Reads the cells of as many changes as fit into a block.
+    /// Reads the cells of the next changes of one table, as many as fit into a block.
     #[cold]
-    fn fill(&mut self) {
-        self.tables.clear();
-        self.first = self.next;
+    fn fill(&mut self) -> Option<()> {
+        let entry = self.numbers.get(self.next..)?.first_chunk::<5>()?;
+        if self.map != entry[2] || self.map == 0 {
+            self.table = ffi::change_at(self.log, entry)?;
+            self.map = entry[2];
+        }
+        let cells = images(entry) * self.table.columns;
+        self.size = cells;
+        let most = TOGETHER.max(BLOCK / cells.max(1));
+        let rest = self.numbers.get(self.next..).unwrap_or_default();
+        let shape =
+            |numbers: &[u32]| [numbers[0], numbers[2], numbers[3].min(1), numbers[4].min(1)];
+        let is_alike = |other: &&[u32]| shape(other) == shape(entry);
+        let alike = rest.chunks_exact(5).take(most).take_while(is_alike).count();
+        let block = free_block(&mut self.block, cells * alike);
+        let written = ffi::values(self.log, rest.get(..5 * alike)?, block);
         self.given = 0;
-        let rest = self
-            .numbers
-            .get(self.next.saturating_mul(5)..)
-            .unwrap_or_default();
-        let mut cells = 0;
-        for numbers in rest.chunks_exact(5) {
-            let Some(entry) = numbers.first_chunk::<5>() else {
-                break;
-            };
-            let Some(table) = table(self.log, entry, &mut self.last) else {
-                break;
-            };
-            let more = images(entry) * table.columns;
-            if cells + more > BLOCK && self.tables.len() >= TOGETHER {
-                break;
-            }
-            cells += more;
-            self.tables.push(table);
-        }
-        let planned = rest.get(..self.tables.len() * 5).unwrap_or_default();
-        let written = ffi::values(self.log, planned, free_block(&mut self.block, cells));
-        if written < cells {
-            // of a listing of another log: changes that can't be read whole are not given
-            let whole = whole_changes(planned, &self.tables, written);
-            self.tables.truncate(whole);
-        }
+        self.left = written.checked_div(cells)?;
+        (self.left > 0).then_some(())
     }
-}
-
-/// How many changes the first so many cells are of.
-fn whole_changes(listing: &[u32], tables: &[Table], mut cells: usize) -> usize {
-    let is_whole = |(numbers, table): &(&[u32], &Table)| {
-        let size = numbers.first_chunk::<5>().map_or(0, images) * table.columns;
-        let left = cells.checked_sub(size);
-        cells = left.unwrap_or(0);
-        left.is_some()
-    };
-    listing
-        .chunks_exact(5)
-        .zip(tables)
-        .take_while(is_whole)
-        .count()
 }
 
 /// A block of at least so many cells to write into: this one, or a new one
 /// where it is too short or a change holds it.
-fn free_block(block: &mut Rc<Vec<CellNumbers>>, cells: usize) -> &mut [CellNumbers] {
+fn free_block(block: &mut Rc<[CellNumbers]>, cells: usize) -> &mut [CellNumbers] {
     if block.len() < cells || Rc::get_mut(block).is_none() {
-        *block = Rc::new(vec![CellNumbers::default(); cells.max(BLOCK)]);
+        *block = Rc::from(vec![CellNumbers::default(); cells.max(BLOCK)]);
     }
-    Rc::get_mut(block)
-        .map(Vec::as_mut_slice)
-        .unwrap_or_default()
-}
-
-/// The table at an entry. Entries with one map have one table.
-fn table(log: &[u8], entry: &[u32; 5], last: &mut (u32, Table)) -> Option<Table> {
-    let map = entry[2];
-    if last.0 != map || map == 0 {
-        *last = (map, ffi::change_at(log, entry)?);
-    }
-    Some(last.1)
+    Rc::get_mut(block).unwrap_or_default()
 }
 
 /// How many images a change has.
@@ -143,26 +108,25 @@ impl<'a> Iterator for Changes<'a> {
 
     #[inline]
     fn next(&mut self) -> Option<Change<'a>> {
-        let start = self.next.checked_mul(5)?;
-        let entry = *self.numbers.get(start..)?.first_chunk::<5>()?;
-        if self.next - self.first >= self.tables.len() {
-            self.fill();
+        let entry = *self.numbers.get(self.next..)?.first_chunk::<5>()?;
+        if self.left == 0 {
+            self.fill()?;
         }
-        let table = *self.tables.get(self.next - self.first)?;
+        self.left -= 1;
+        self.next += 5;
         let start = self.given;
-        self.given += images(&entry) * table.columns;
-        self.next += 1;
+        self.given += self.size;
         Some(Change {
             log: self.log,
             entry: Entry(entry),
-            table,
+            table: self.table,
             block: self.block.clone(),
             start,
         })
     }
 
     fn size_hint(&self) -> (usize, Option<usize>) {
-        let left = (self.numbers.len() / 5).saturating_sub(self.next);
+        let left = (self.numbers.len().saturating_sub(self.next)) / 5;
         (left, Some(left))
     }
 }
@@ -176,7 +140,7 @@ pub struct Change<'a> {
     log: &'a [u8],
     entry: Entry,
     table: Table,
-    block: Rc<Vec<CellNumbers>>,
+    block: Rc<[CellNumbers]>,
     /// Its first cell in the block.
     start: usize,
 }

@@ -149,7 +149,8 @@ impl<'a> Log<'a> {
     }
 
     /// Which rows changed? Five numbers for each change go into `out`; those
-    /// past them stay as they were, and all where refused.
+    /// past them stay as they were, and all where refused. A buffer of zeros
+    /// is filled in one walk of the log, any other in two.
     pub fn list(&self, out: &mut [u32]) -> Result<Counts, Refusal> {
         counts(ffi::list(self.bytes, out))
     }
