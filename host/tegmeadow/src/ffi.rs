@@ -7,8 +7,6 @@
 //! and length, and an array as a pointer to as many numbers. An empty slice's
 //! pointer may dangle; the library follows no pointer of length 0.
 
-use std::alloc::{alloc_zeroed, Layout};
-
 /// The five numbers of a listing entry.
 pub type EntryNumbers = [u32; 5];
 /// The eight numbers of a cell.
@@ -309,20 +307,4 @@ pub fn values(log: &[u8], listing: &[u32], cells: &mut [CellNumbers]) -> usize {
             cells.len(),
         )
     }
-}
-
-/// As many zeros on the heap, or none where there is no such memory. The pages
-/// of what is not written are never touched.
-pub fn zeros(count: usize) -> Option<Vec<u32>> {
-    if count == 0 {
-        return Some(Vec::new());
-    }
-    let layout = Layout::array::<u32>(count).ok()?;
-    // SAFETY: the layout's size is not 0.
-    let memory = unsafe { alloc_zeroed(layout) } as *mut u32;
-    if memory.is_null() {
-        return None;
-    }
-    // SAFETY: memory of the global allocator with the layout of `count` numbers, all zero.
-    Some(unsafe { Vec::from_raw_parts(memory, count, count) })
 }

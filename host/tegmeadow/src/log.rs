@@ -4,6 +4,7 @@ use crate::cell::{part, Cell};
 use crate::changes::Changes;
 use crate::ffi::{self, Answer, EntryNumbers, Walked};
 use crate::refusal::Refusal;
+use memory::zeros;
 use std::fmt;
 use std::ops::Range;
 
@@ -172,7 +173,7 @@ impl<'a> Log<'a> {
     pub fn try_listing(&self) -> Result<Listing, ListingError> {
         // A walk is saved where a guess is large enough. A row of less than
         // four bytes is rare, and memory that is not written costs nothing.
-        if let Some(numbers) = ffi::zeros(self.bytes.len() / 4 * 5) {
+        if let Some(numbers) = zeros(self.bytes.len() / 4 * 5) {
             match self.listing_in(numbers) {
                 Err(Refusal {
                     number: BUFFER_TOO_SHORT,
@@ -183,7 +184,7 @@ impl<'a> Log<'a> {
             }
         }
         let changes = self.check()?.changes;
-        let numbers = ffi::zeros(changes.saturating_mul(5));
+        let numbers = zeros(changes.saturating_mul(5));
         let numbers = numbers.ok_or(ListingError::NoMemory { changes })?;
         Ok(self.listing_in(numbers)?)
     }

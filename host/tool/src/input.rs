@@ -1,8 +1,8 @@
 //! Where a log comes from.
 
+use memory::zeros;
 use std::borrow::Cow;
 use std::fs::File;
-use std::hint::black_box;
 use std::io::{self, ErrorKind, Read, Seek, SeekFrom};
 use std::os::unix::fs::FileExt;
 use std::path::PathBuf;
@@ -54,7 +54,7 @@ fn whole(mut file: File, size: u64) -> io::Result<Vec<u8>> {
     if size <= PART {
         return rest(file, room(size)?);
     }
-    let mut bytes = zeros(size)?;
+    let mut bytes = zeros(size).ok_or(ErrorKind::OutOfMemory)?;
     let read = in_parts(&file, &mut bytes);
     bytes.truncate(read);
     file.seek(SeekFrom::Start(read as u64))?;
@@ -68,13 +68,6 @@ fn room(size: usize) -> io::Result<Vec<u8>> {
         .try_reserve_exact(size + 1)
         .map_err(|_| ErrorKind::OutOfMemory)?;
     Ok(bytes)
-}
-
-/// So many zeros. Their memory is not touched before it is written.
-fn zeros(size: usize) -> io::Result<Vec<u8>> {
-    // tried first: where there is no memory, `vec!` would end the program
-    drop(black_box(room(size)?));
-    Ok(vec![0; size])
 }
 
 /// Bytes, and all that follow them.
