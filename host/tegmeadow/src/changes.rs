@@ -77,9 +77,7 @@ impl<'a> Changes<'a> {
         self.size = cells;
         let most = TOGETHER.max(BLOCK / cells.max(1));
         let rest = self.numbers.get(self.next..).unwrap_or_default();
-        let shape =
-            |numbers: &[u32]| [numbers[0], numbers[2], numbers[3].min(1), numbers[4].min(1)];
-        let is_alike = |other: &&[u32]| shape(other) == shape(entry);
+        let is_alike = |other: &&[u32]| other[0] == entry[0] && other[2] == entry[2];
         let alike = rest.chunks_exact(5).take(most).take_while(is_alike).count();
         let block = free_block(&mut self.block, cells * alike);
         let written = ffi::values(self.log, rest.get(..5 * alike)?, block);
@@ -98,9 +96,9 @@ fn free_block(block: &mut Rc<[CellNumbers]>, cells: usize) -> &mut [CellNumbers]
     Rc::get_mut(block).unwrap_or_default()
 }
 
-/// How many images a change has.
+/// How many images a change has, by its type: an update has two.
 fn images(entry: &[u32; 5]) -> usize {
-    usize::from(entry[3] != 0) + usize::from(entry[4] != 0)
+    1 + usize::from(entry[0] == 31)
 }
 
 impl<'a> Iterator for Changes<'a> {
@@ -184,20 +182,20 @@ impl<'a> Change<'a> {
     /// The row as it was: of an update or a delete.
     #[inline]
     pub fn before(&self) -> Option<Image<'_, 'a>> {
-        self.entry.before()?;
+        if self.kind() == Kind::Write {
+            return None;
+        }
         self.image(self.start)
     }
 
     /// The row as it is then: of a write or an update.
     #[inline]
     pub fn after(&self) -> Option<Image<'_, 'a>> {
-        self.entry.after()?;
-        let skipped = if self.entry.before().is_some() {
-            self.table.columns
-        } else {
-            0
-        };
-        self.image(self.start + skipped)
+        match self.kind() {
+            Kind::Write => self.image(self.start),
+            Kind::Update => self.image(self.start + self.table.columns),
+            Kind::Delete => None,
+        }
     }
 
     #[inline]
