@@ -1,6 +1,6 @@
 // CRC-32 of a slice: a short one by words, a long one by a window of bytes.
 ghost use mathlib.Core.Path.{_≡_};
-ghost use Prim.Native.Nat.{_+_, _-_, _/_, _%_, _^_, _<_, _≤_};
+ghost use Prim.Native.Nat.{_^_, _<_, _≤_};
 ghost use lib.ListN.{length};
 ghost use Rattle.format.specs.Crc.{crcFrom, crc32};
 use fold::clear;

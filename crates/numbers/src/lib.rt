@@ -2,7 +2,6 @@
 ghost use mathlib.Core.Path.{_≡_};
 ghost use Rattle.format.specs.Answers as Answers;
 ghost use Rattle.format.specs.Answers.{fields};
-ghost use Rattle.format.specs.declared.Part.{Part};
 ghost use Rattle.walk.specs.State.{checkedAnswer};
 ghost use Rattle.numbers.specs.Answer.{checkedNumber, checkedPlace, checkedEvents, checkedChanges, numberOf, placeOf, cellOf, entryIn};
 use entry::Change;

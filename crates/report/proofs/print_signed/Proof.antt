@@ -1,7 +1,6 @@
 -- A number below 0 is printed by its distance from -1, which fits.
 use borrow.Author.Needs.{needs}
 use native.Mathlib.Omega.{arith}
-use lib.Signed.{mag}
 use Rattle.wire.proofs.Below.{less-fits, less-is, casts}
 use Rattle.report.proofs.print_signed.Statement.{statement}
 use Rattle.report.proofs.print_signed.Tie as tie

@@ -2,7 +2,6 @@ use Rattle.wire.proofs.Bits.{more-most}
 use Rattle.format.specs.Columns.{count, bits, bitsFrom}
 use Prim.Native.Nat.{_+_, _-_, _≤_}
 use mathlib.Core.Path.{_≡_}
-use native.Mathlib.Omega.{arith}
 use Rattle.wire.proofs.Bits.{bit-room, count-end, count-more, count-start}
 use borrow.Author.Needs.{needs}
 use Rattle.wire.proofs.count_bits.Statement.{statement}

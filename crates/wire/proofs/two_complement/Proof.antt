@@ -1,9 +1,7 @@
 use borrow.Author.Needs.{needs}
-use mathlib.Core.Path.{_≡_, refl}
+use mathlib.Core.Path.{refl}
 use Prim.Native.Nat.{_-_, _^_, _<_}
 use native.Mathlib.Omega.{arith}
-use mir.Syntax.{w64}
-use mir.Val.{SFits}
 use Rattle.wire.proofs.Laws.{half, half-of, below-zero, signed-pos, signed-neg}
 use Rattle.wire.proofs.two_complement.Statement.{statement}
 use Rattle.wire.proofs.two_complement.Tie as tie
