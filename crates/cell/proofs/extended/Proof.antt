@@ -4,8 +4,6 @@ use native.Mathlib.Omega.{arith}
 use borrow.Author.Needs.{needs}
 use Rattle.cell.proofs.extended.Statement.{statement}
 use Rattle.cell.proofs.extended.Tie as tie
-use Rattle.cell.proofs.extended.Reads as reads
-use Rattle.cell.proofs.extended.Lts as lts
 
 -- src/lib.rt:22:25
 mul-half : tie.Need-mul-half

@@ -4,9 +4,6 @@ use Prim.Native.Nat.{ℕ, _-_, _^_}
 use Rattle.format.specs.Crc.{crc32}
 use Rattle.crc.proofs.checksum.Statement.{statement}
 use Rattle.crc.proofs.checksum.Tie as tie
-use Rattle.crc.proofs.checksum.Reads as reads
-use Rattle.crc.proofs.checksum.Lts as lts
-use Rattle.crc.proofs.more.Reads as more-reads
 
 -- src/lib.rt:185:6
 more-requires : tie.Need-more-requires

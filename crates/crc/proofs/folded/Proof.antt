@@ -12,13 +12,6 @@ use Rattle.crc.proofs.Window.{bytes-of, filled-none, small, fold-start,
 use borrow.Author.Needs.{needs}
 use Rattle.crc.proofs.folded.Statement.{statement}
 use Rattle.crc.proofs.folded.Tie as tie
-use Rattle.crc.proofs.folded.Reads as reads
-use Rattle.crc.proofs.folded.Lts as lts
-use Rattle.words.proofs.after.Reads as after-reads
-use Rattle.crc.proofs.fold.clear.Reads as clear-reads
-use Rattle.crc.proofs.fold.pay.Reads as pay-reads
-use Rattle.crc.proofs.fold.room.Reads as room-reads
-use Rattle.crc.proofs.fold.take.Reads as take-reads
 
 abbrev Inv-loop : tie.InvT-loop
 Inv-loop c s w₀ q₀ p₀ w q p =

@@ -3,10 +3,6 @@ use Rattle.words.proofs.Start.{crc-fits}
 use borrow.Author.Needs.{needs}
 use Rattle.crc.proofs.more.Statement.{statement}
 use Rattle.crc.proofs.more.Tie as tie
-use Rattle.crc.proofs.more.Reads as reads
-use Rattle.crc.proofs.more.Lts as lts
-use Rattle.words.proofs.after.Reads as after-reads
-use Rattle.crc.proofs.folded.Reads as folded-reads
 
 -- src/lib.rt:306:16
 after-requires : tie.Need-after-requires

@@ -2,8 +2,6 @@ use Rattle.numbers.specs.Answer.{entryIn}
 use borrow.Author.Needs.{needs}
 use Rattle.numbers.proofs.entry_in.Statement.{statement}
 use Rattle.numbers.proofs.entry_in.Tie as tie
-use Rattle.numbers.proofs.entry_in.Reads as reads
-use Rattle.numbers.proofs.entry_in.Lts as lts
 
 element-copy-out-t4 : tie.Need-element-copy-out-t4
 element-copy-out-t4 c = search needs

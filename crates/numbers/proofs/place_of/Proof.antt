@@ -3,8 +3,6 @@ use Rattle.numbers.specs.Answer.{placeOf}
 use borrow.Author.Needs.{needs}
 use Rattle.numbers.proofs.place_of.Statement.{statement}
 use Rattle.numbers.proofs.place_of.Tie as tie
-use Rattle.numbers.proofs.place_of.Reads as reads
-use Rattle.numbers.proofs.place_of.Lts as lts
 
 enum-known-x : tie.Need-enum-known-x
 enum-known-x c = search needs

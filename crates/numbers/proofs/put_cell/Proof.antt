@@ -4,10 +4,6 @@ use Rattle.numbers.proofs.Told.{filled}
 use borrow.Author.Needs.{needs}
 use Rattle.numbers.proofs.put_cell.Statement.{statement}
 use Rattle.numbers.proofs.put_cell.Tie as tie
-use Rattle.numbers.proofs.put_cell.Reads as reads
-use Rattle.numbers.proofs.put_cell.Lts as lts
-use Rattle.cell.proofs.put_bare.Reads as put-bare-reads
-use Rattle.cell.proofs.put_value.Reads as put-value-reads
 
 enum-known-x : tie.Need-enum-known-x
 enum-known-x c = search needs

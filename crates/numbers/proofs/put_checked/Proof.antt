@@ -2,8 +2,6 @@ use Rattle.numbers.proofs.Told.{checked-told}
 use borrow.Author.Needs.{needs}
 use Rattle.numbers.proofs.put_checked.Statement.{statement}
 use Rattle.numbers.proofs.put_checked.Tie as tie
-use Rattle.numbers.proofs.put_checked.Reads as reads
-use Rattle.numbers.proofs.put_checked.Lts as lts
 
 enum-known-x : tie.Need-enum-known-x
 enum-known-x c = search needs

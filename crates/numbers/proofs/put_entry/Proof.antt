@@ -2,8 +2,6 @@ use Rattle.format.specs.Answers.{fields}
 use borrow.Author.Needs.{needs}
 use Rattle.numbers.proofs.put_entry.Statement.{statement}
 use Rattle.numbers.proofs.put_entry.Tie as tie
-use Rattle.numbers.proofs.put_entry.Reads as reads
-use Rattle.numbers.proofs.put_entry.Lts as lts
 
 returns : tie.Need-returns
 unfolding fields

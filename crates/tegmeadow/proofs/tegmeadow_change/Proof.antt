@@ -3,11 +3,6 @@ use Rattle.numbers.proofs.Told.{changed-told}
 use borrow.Author.Needs.{needs}
 use Rattle.tegmeadow.proofs.tegmeadow_change.Statement.{statement}
 use Rattle.tegmeadow.proofs.tegmeadow_change.Tie as tie
-use Rattle.tegmeadow.proofs.tegmeadow_change.Reads as reads
-use Rattle.tegmeadow.proofs.tegmeadow_change.Lts as lts
-use Rattle.binlog.proofs.change.Reads as change-reads
-use Rattle.numbers.proofs.put_entry.Reads as put-entry-reads
-use Rattle.numbers.proofs.put_table.Reads as put-table-reads
 
 change-requires : tie.Need-change-requires
 change-requires c κs = search needs

@@ -6,11 +6,6 @@ use Rattle.numbers.proofs.Told.{changed-told}
 use borrow.Author.Needs.{needs}
 use Rattle.tegmeadow.proofs.tegmeadow_change_at.Statement.{statement}
 use Rattle.tegmeadow.proofs.tegmeadow_change_at.Tie as tie
-use Rattle.tegmeadow.proofs.tegmeadow_change_at.Reads as reads
-use Rattle.tegmeadow.proofs.tegmeadow_change_at.Lts as lts
-use Rattle.entry.proofs.change_at.Reads as change-at-reads
-use Rattle.numbers.proofs.entry_in.Reads as entry-in-reads
-use Rattle.numbers.proofs.put_table.Reads as put-table-reads
 
 entry-in-requires : tie.Need-entry-in-requires
 entry-in-requires c κs = search needs

@@ -1,10 +1,6 @@
 use borrow.Author.Needs.{needs}
 use Rattle.tegmeadow.proofs.tegmeadow_check.Statement.{statement}
 use Rattle.tegmeadow.proofs.tegmeadow_check.Tie as tie
-use Rattle.tegmeadow.proofs.tegmeadow_check.Reads as reads
-use Rattle.tegmeadow.proofs.tegmeadow_check.Lts as lts
-use Rattle.binlog.proofs.check.Reads as check-reads
-use Rattle.numbers.proofs.put_checked.Reads as put-checked-reads
 
 check-requires : tie.Need-check-requires
 check-requires c κs = search needs

@@ -4,11 +4,6 @@ use mathlib.Core.Path.{_∙_, ap}
 use borrow.Author.Needs.{needs}
 use Rattle.tegmeadow.proofs.tegmeadow_database_name_at.Statement.{statement}
 use Rattle.tegmeadow.proofs.tegmeadow_database_name_at.Tie as tie
-use Rattle.tegmeadow.proofs.tegmeadow_database_name_at.Reads as reads
-use Rattle.tegmeadow.proofs.tegmeadow_database_name_at.Lts as lts
-use Rattle.entry.proofs.database_part_at.Reads as database-part-at-reads
-use Rattle.numbers.proofs.entry_in.Reads as entry-in-reads
-use Rattle.numbers.proofs.put_part.Reads as put-part-reads
 
 entry-in-requires : tie.Need-entry-in-requires
 entry-in-requires c κs = search needs

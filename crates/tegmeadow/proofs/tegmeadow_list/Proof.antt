@@ -3,10 +3,6 @@ use Rattle.numbers.proofs.Told.{listed-is}
 use borrow.Author.Needs.{needs}
 use Rattle.tegmeadow.proofs.tegmeadow_list.Statement.{statement}
 use Rattle.tegmeadow.proofs.tegmeadow_list.Tie as tie
-use Rattle.tegmeadow.proofs.tegmeadow_list.Reads as reads
-use Rattle.tegmeadow.proofs.tegmeadow_list.Lts as lts
-use Rattle.binlog.proofs.list.Reads as list-reads
-use Rattle.numbers.proofs.put_checked.Reads as put-checked-reads
 
 list-requires : tie.Need-list-requires
 list-requires c κs = search needs

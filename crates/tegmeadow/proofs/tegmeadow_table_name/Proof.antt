@@ -3,10 +3,6 @@ use mathlib.Core.Path.{_∙_, ap}
 use borrow.Author.Needs.{needs}
 use Rattle.tegmeadow.proofs.tegmeadow_table_name.Statement.{statement}
 use Rattle.tegmeadow.proofs.tegmeadow_table_name.Tie as tie
-use Rattle.tegmeadow.proofs.tegmeadow_table_name.Reads as reads
-use Rattle.tegmeadow.proofs.tegmeadow_table_name.Lts as lts
-use Rattle.binlog.proofs.table_part.Reads as table-part-reads
-use Rattle.numbers.proofs.put_part.Reads as put-part-reads
 
 table-part-requires : tie.Need-table-part-requires
 table-part-requires c κs = search needs

@@ -3,10 +3,6 @@ use mathlib.Core.Path.{_∙_, ap}
 use borrow.Author.Needs.{needs}
 use Rattle.tegmeadow.proofs.tegmeadow_text.Statement.{statement}
 use Rattle.tegmeadow.proofs.tegmeadow_text.Tie as tie
-use Rattle.tegmeadow.proofs.tegmeadow_text.Reads as reads
-use Rattle.tegmeadow.proofs.tegmeadow_text.Lts as lts
-use Rattle.binlog.proofs.text_part.Reads as text-part-reads
-use Rattle.numbers.proofs.put_part.Reads as put-part-reads
 
 text-part-requires : tie.Need-text-part-requires
 text-part-requires c κs = search needs

@@ -3,11 +3,6 @@ use Rattle.numbers.proofs.Told.{valued-told}
 use borrow.Author.Needs.{needs}
 use Rattle.tegmeadow.proofs.tegmeadow_value.Statement.{statement}
 use Rattle.tegmeadow.proofs.tegmeadow_value.Tie as tie
-use Rattle.tegmeadow.proofs.tegmeadow_value.Reads as reads
-use Rattle.tegmeadow.proofs.tegmeadow_value.Lts as lts
-use Rattle.binlog.proofs.value.Reads as value-reads
-use Rattle.numbers.proofs.place_of.Reads as place-of-reads
-use Rattle.numbers.proofs.put_cell.Reads as put-cell-reads
 
 value-requires : tie.Need-value-requires
 value-requires c κs = search needs

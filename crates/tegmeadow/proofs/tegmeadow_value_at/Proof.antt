@@ -6,11 +6,6 @@ use mathlib.Core.Path.{_∙_, ap}
 use borrow.Author.Needs.{needs}
 use Rattle.tegmeadow.proofs.tegmeadow_value_at.Statement.{statement}
 use Rattle.tegmeadow.proofs.tegmeadow_value_at.Tie as tie
-use Rattle.tegmeadow.proofs.tegmeadow_value_at.Reads as reads
-use Rattle.tegmeadow.proofs.tegmeadow_value_at.Lts as lts
-use Rattle.entry.proofs.value_at.Reads as value-at-reads
-use Rattle.numbers.proofs.entry_in.Reads as entry-in-reads
-use Rattle.numbers.proofs.put_cell.Reads as put-cell-reads
 
 entry-in-requires : tie.Need-entry-in-requires
 entry-in-requires c κs = search needs

@@ -5,9 +5,6 @@ use Rattle.wire.proofs.Bits.{bit-room, count-start, any-hit, any-miss, 
 use borrow.Author.Needs.{needs}
 use Rattle.wire.proofs.any_bit.Statement.{statement}
 use Rattle.wire.proofs.any_bit.Tie as tie
-use Rattle.wire.proofs.any_bit.Reads as reads
-use Rattle.wire.proofs.any_bit.Lts as lts
-use Rattle.wire.proofs.bit_at.Reads as bit-at-reads
 
 abbrev Inv-loop : tie.InvT-loop
 Inv-loop s n i₀ i = (i ≤ n) × (0 + count (bitsFrom i (n - i) s) ≡ count (bits n s))

@@ -2,8 +2,6 @@ use borrow.Author.Needs.{needs}
 use Rattle.wire.proofs.Differences.{sub-fits, sub-is}
 use Rattle.wire.proofs.apart.Statement.{statement}
 use Rattle.wire.proofs.apart.Tie as tie
-use Rattle.wire.proofs.apart.Reads as reads
-use Rattle.wire.proofs.apart.Lts as lts
 
 -- src/lib.rt:118:6
 cast-result : tie.Need-cast-result

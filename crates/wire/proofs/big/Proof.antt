@@ -7,8 +7,6 @@ use Rattle.format.specs.Bytes.{bigFrom, numBig, bigAt}
 use Rattle.wire.proofs.Laws.{big-turn, big-below-at}
 use Rattle.wire.proofs.big.Statement.{statement}
 use Rattle.wire.proofs.big.Tie as tie
-use Rattle.wire.proofs.big.Reads as reads
-use Rattle.wire.proofs.big.Lts as lts
 
 abbrev Inv-loop : tie.InvT-loop
 Inv-loop s at n v₀ i₀ v i = (i ≤ n) × (v ≡ bigAt s at i)

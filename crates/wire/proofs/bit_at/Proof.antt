@@ -2,9 +2,6 @@ use Rattle.format.specs.Columns.{bit}
 use borrow.Author.Needs.{needs}
 use Rattle.wire.proofs.bit_at.Statement.{statement}
 use Rattle.wire.proofs.bit_at.Tie as tie
-use Rattle.wire.proofs.bit_at.Reads as reads
-use Rattle.wire.proofs.bit_at.Lts as lts
-use Rattle.wire.proofs.wide.Reads as wide-reads
 
 -- src/lib.rt:21:25
 shared-slice-read-wide : tie.Need-shared-slice-read-wide

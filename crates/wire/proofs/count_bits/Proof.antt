@@ -6,10 +6,6 @@ use Rattle.wire.proofs.Bits.{bit-room, count-end, count-more, count-sta
 use borrow.Author.Needs.{needs}
 use Rattle.wire.proofs.count_bits.Statement.{statement}
 use Rattle.wire.proofs.count_bits.Tie as tie
-use Rattle.wire.proofs.count_bits.Reads as reads
-use Rattle.wire.proofs.count_bits.Lts as lts
-use Rattle.wire.proofs.bit_at.Reads as bit-at-reads
-use Rattle.wire.proofs.one_more.Reads as one-more-reads
 
 abbrev Inv-loop : tie.InvT-loop
 Inv-loop s n k₀ i₀ k i = (i ≤ n) × (k ≤ i) × (k + count (bitsFrom i (n - i) s) ≡ count (bits n s))

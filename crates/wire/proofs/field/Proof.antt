@@ -5,8 +5,6 @@ use lib.Bits.{and-mask}
 use lib.Pow.{pow-pos}
 use Rattle.wire.proofs.field.Statement.{statement}
 use Rattle.wire.proofs.field.Tie as tie
-use Rattle.wire.proofs.field.Reads as reads
-use Rattle.wire.proofs.field.Lts as lts
 
 -- src/lib.rt:12:6
 shr-result : tie.Need-shr-result

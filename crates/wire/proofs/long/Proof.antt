@@ -6,9 +6,6 @@ use borrow.Author.Tests.{le-leb, lt-leb}
 use Rattle.wire.specs.Answer.{longAt}
 use Rattle.wire.proofs.long.Statement.{statement}
 use Rattle.wire.proofs.long.Tie as tie
-use Rattle.wire.proofs.long.Reads as reads
-use Rattle.wire.proofs.long.Lts as lts
-use Rattle.wire.proofs.number.Reads as number-reads
 
 -- src/lib.rt:32:13
 sub-if1 : tie.Need-sub-if1

@@ -6,7 +6,6 @@ use Rattle.format.proofs.Fields.{Digits, digits-start, digits-room, digits-step
 use Rattle.wire.proofs.number.Statement.{statement}
 use Rattle.wire.proofs.number.Tie as tie
 use Rattle.wire.proofs.number.Reads as reads
-use Rattle.wire.proofs.number.Lts as lts
 
 abbrev Inv-loop : tie.InvT-loop
 Inv-loop s at k v₀ i₀ v i = Digits s at k i v

@@ -1,8 +1,6 @@
 use borrow.Author.Needs.{needs}
 use Rattle.wire.proofs.one_more.Statement.{statement}
 use Rattle.wire.proofs.one_more.Tie as tie
-use Rattle.wire.proofs.one_more.Reads as reads
-use Rattle.wire.proofs.one_more.Lts as lts
 
 -- src/lib.rt:31:14
 add-result : tie.Need-add-result

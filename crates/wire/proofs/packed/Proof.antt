@@ -3,9 +3,6 @@ use borrow.Author.Needs.{needs}
 use Rattle.wire.proofs.PackedAt.{packed-end, packed-one, packed-two, packed-three, packed-eight, packed-no}
 use Rattle.wire.proofs.packed.Statement.{statement}
 use Rattle.wire.proofs.packed.Tie as tie
-use Rattle.wire.proofs.packed.Reads as reads
-use Rattle.wire.proofs.packed.Lts as lts
-use Rattle.wire.proofs.long.Reads as long-reads
 
 -- src/lib.rt:43:9
 returns : tie.Need-returns

@@ -5,10 +5,6 @@ use Rattle.wire.proofs.Same.{s-few, s-other, s-again, s-last}
 use borrow.Author.Needs.{needs}
 use Rattle.wire.proofs.same_bytes.Statement.{statement}
 use Rattle.wire.proofs.same_bytes.Tie as tie
-use Rattle.wire.proofs.same_bytes.Reads as reads
-use Rattle.wire.proofs.same_bytes.Lts as lts
-use Rattle.wire.proofs.number.Reads as number-reads
-use Rattle.wire.proofs.word.Reads as word-reads
 
 abbrev Inv-loop : tie.InvT-loop
 Inv-loop s a b n last i₀ i = (i ≤ n) × (take i (drop a s) ≡ take i (drop b s))

@@ -9,8 +9,6 @@ use mir.ValLaws.{toZ-ofZ}
 use Rattle.wire.proofs.Differences.{neg-is, not-neg}
 use Rattle.wire.proofs.size_of.Statement.{statement}
 use Rattle.wire.proofs.size_of.Tie as tie
-use Rattle.wire.proofs.size_of.Reads as reads
-use Rattle.wire.proofs.size_of.Lts as lts
 
 -- src/lib.rt:126:17
 sub-result : tie.Need-sub-result

@@ -4,8 +4,6 @@ use Prim.Native.Nat.{_-_}
 use borrow.Author.Needs.{needs}
 use Rattle.wire.proofs.turned.Statement.{statement}
 use Rattle.wire.proofs.turned.Tie as tie
-use Rattle.wire.proofs.turned.Reads as reads
-use Rattle.wire.proofs.turned.Lts as lts
 
 abbrev Inv-loop : tie.InvT-loop
 Inv-loop x v₀ y₀ i₀ v y i = Turning x v y i

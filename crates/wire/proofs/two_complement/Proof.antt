@@ -5,8 +5,6 @@ use native.Mathlib.Omega.{arith}
 use Rattle.wire.proofs.Laws.{half, half-of, below-zero, signed-pos, signed-neg}
 use Rattle.wire.proofs.two_complement.Statement.{statement}
 use Rattle.wire.proofs.two_complement.Tie as tie
-use Rattle.wire.proofs.two_complement.Reads as reads
-use Rattle.wire.proofs.two_complement.Lts as lts
 
 -- src/lib.rt:40:25
 mul-half : tie.Need-mul-half

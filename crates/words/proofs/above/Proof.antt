@@ -3,8 +3,6 @@ use Rattle.words.specs.Words.{itself}
 use mathlib.Core.Path.{sym, _∙_}
 use Rattle.words.proofs.above.Statement.{statement}
 use Rattle.words.proofs.above.Tie as tie
-use Rattle.words.proofs.above.Reads as reads
-use Rattle.words.proofs.above.Lts as lts
 
 -- src/lib.rt:98:1
 returns : tie.Need-returns

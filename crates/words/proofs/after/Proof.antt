@@ -7,13 +7,6 @@ use mathlib.Core.Path.{ap, _∙_}
 use borrow.Author.Needs.{needs}
 use Rattle.words.proofs.after.Statement.{statement}
 use Rattle.words.proofs.after.Tie as tie
-use Rattle.words.proofs.after.Reads as reads
-use Rattle.words.proofs.after.Lts as lts
-use Rattle.wire.proofs.number.Reads as number-reads
-use Rattle.wire.proofs.word.Reads as word-reads
-use Rattle.words.proofs.few.Reads as few-reads
-use Rattle.words.proofs.last_one.Reads as last-one-reads
-use Rattle.words.proofs.many.Reads as many-reads
 
 -- src/lib.rt:179:9
 returns : tie.Need-returns

@@ -1,8 +1,6 @@
 use Rattle.words.proofs.Taps.{far-push}
 use Rattle.words.proofs.carry_far.Statement.{statement}
 use Rattle.words.proofs.carry_far.Tie as tie
-use Rattle.words.proofs.carry_far.Reads as reads
-use Rattle.words.proofs.carry_far.Lts as lts
 
 -- src/lib.rt:30:1
 returns : tie.Need-returns

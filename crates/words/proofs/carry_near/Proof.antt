@@ -1,8 +1,6 @@
 use Rattle.words.proofs.Taps.{near-push}
 use Rattle.words.proofs.carry_near.Statement.{statement}
 use Rattle.words.proofs.carry_near.Tie as tie
-use Rattle.words.proofs.carry_near.Reads as reads
-use Rattle.words.proofs.carry_near.Lts as lts
 
 -- src/lib.rt:44:1
 returns : tie.Need-returns

@@ -12,11 +12,6 @@ use mathlib.Core.Path.{_≡_, refl, ap, _∙_}
 use borrow.Author.Needs.{needs}
 use Rattle.words.proofs.few.Statement.{statement}
 use Rattle.words.proofs.few.Tie as tie
-use Rattle.words.proofs.few.Reads as reads
-use Rattle.words.proofs.few.Lts as lts
-use Rattle.wire.proofs.word.Reads as word-reads
-use Rattle.words.proofs.carry_near.Reads as carry-near-reads
-use Rattle.words.proofs.last_two.Reads as last-two-reads
 
 abbrev Inv-loop : tie.InvT-loop
 Inv-loop s at first second t₀ i₀ t i =

@@ -4,8 +4,6 @@ use lib.Bits.{bitXor}
 use mathlib.Core.Path.{sym, ap}
 use Rattle.words.proofs.inverse_one.Statement.{statement}
 use Rattle.words.proofs.inverse_one.Tie as tie
-use Rattle.words.proofs.inverse_one.Reads as reads
-use Rattle.words.proofs.inverse_one.Lts as lts
 
 -- src/lib.rt:79:1
 returns : tie.Need-returns

@@ -5,8 +5,6 @@ use lib.Bits.{bitXor}
 use mathlib.Core.Path.{sym, ap, _∙_}
 use Rattle.words.proofs.inverse_two.Statement.{statement}
 use Rattle.words.proofs.inverse_two.Tie as tie
-use Rattle.words.proofs.inverse_two.Reads as reads
-use Rattle.words.proofs.inverse_two.Lts as lts
 
 -- src/lib.rt:85:1
 returns : tie.Need-returns

@@ -9,10 +9,6 @@ use mathlib.Core.Path.{ap, _∙_}
 use borrow.Author.Needs.{needs}
 use Rattle.words.proofs.last_five.Statement.{statement}
 use Rattle.words.proofs.last_five.Tie as tie
-use Rattle.words.proofs.last_five.Reads as reads
-use Rattle.words.proofs.last_five.Lts as lts
-use Rattle.words.proofs.carry_near.Reads as carry-near-reads
-use Rattle.words.proofs.last_two.Reads as last-two-reads
 
 -- src/lib.rt:135:24
 carry-near-requires : tie.Need-carry-near-requires

@@ -3,11 +3,6 @@ use mathlib.Core.Path.{_∙_}
 use borrow.Author.Needs.{needs}
 use Rattle.words.proofs.last_one.Statement.{statement}
 use Rattle.words.proofs.last_one.Tie as tie
-use Rattle.words.proofs.last_one.Reads as reads
-use Rattle.words.proofs.last_one.Lts as lts
-use Rattle.words.proofs.above.Reads as above-reads
-use Rattle.words.proofs.inverse_one.Reads as inverse-one-reads
-use Rattle.words.proofs.inverse_two.Reads as inverse-two-reads
 
 -- src/lib.rt:111:23
 inverse-one-requires : tie.Need-inverse-one-requires

@@ -2,11 +2,6 @@ use Rattle.words.proofs.Taps.{last-words}
 use borrow.Author.Needs.{needs}
 use Rattle.words.proofs.last_two.Statement.{statement}
 use Rattle.words.proofs.last_two.Tie as tie
-use Rattle.words.proofs.last_two.Reads as reads
-use Rattle.words.proofs.last_two.Lts as lts
-use Rattle.words.proofs.last_one.Reads as last-one-reads
-use Rattle.words.proofs.next_high.Reads as next-high-reads
-use Rattle.words.proofs.next_low.Reads as next-low-reads
 
 -- src/lib.rt:118:14
 next-low-requires : tie.Need-next-low-requires

@@ -11,11 +11,6 @@ use mathlib.Core.Path.{_≡_, refl, sym, ap₂, _∙_}
 use borrow.Author.Needs.{needs}
 use Rattle.words.proofs.many.Statement.{statement}
 use Rattle.words.proofs.many.Tie as tie
-use Rattle.words.proofs.many.Reads as reads
-use Rattle.words.proofs.many.Lts as lts
-use Rattle.wire.proofs.word.Reads as word-reads
-use Rattle.words.proofs.carry_far.Reads as carry-far-reads
-use Rattle.words.proofs.last_five.Reads as last-five-reads
 
 abbrev Inv-loop : tie.InvT-loop
 Inv-loop s at first second f₀ i₀ f i =

@@ -3,8 +3,6 @@ use Rattle.words.specs.Words.{next}
 use mathlib.Core.Path.{sym, _∙_}
 use Rattle.words.proofs.next_high.Statement.{statement}
 use Rattle.words.proofs.next_high.Tie as tie
-use Rattle.words.proofs.next_high.Reads as reads
-use Rattle.words.proofs.next_high.Lts as lts
 
 -- src/lib.rt:69:1
 returns : tie.Need-returns

@@ -4,8 +4,6 @@ use Rattle.words.specs.Words.{next}
 use mathlib.Core.Path.{sym, _∙_}
 use Rattle.words.proofs.next_low.Statement.{statement}
 use Rattle.words.proofs.next_low.Tie as tie
-use Rattle.words.proofs.next_low.Reads as reads
-use Rattle.words.proofs.next_low.Lts as lts
 
 -- src/lib.rt:59:1
 returns : tie.Need-returns

@@ -9,8 +9,6 @@ use lib.Dec.{lit<}
 use borrow.Author.Needs.{needs}
 use Rattle.crc.proofs.fold.clear.Statement.{statement}
 use Rattle.crc.proofs.fold.clear.Tie as tie
-use Rattle.crc.proofs.fold.clear.Reads as reads
-use Rattle.crc.proofs.fold.clear.Lts as lts
 
 abbrev Inv-loop : tie.InvT-loop
 Inv-loop w₀ q i₀ w i =

@@ -9,8 +9,6 @@ use Rattle.crc.proofs.Window.{bytes-of, filled-set, taken-below, Left, 
 use borrow.Author.Needs.{needs}
 use Rattle.crc.proofs.fold.pay.Statement.{statement}
 use Rattle.crc.proofs.fold.pay.Tie as tie
-use Rattle.crc.proofs.fold.pay.Reads as reads
-use Rattle.crc.proofs.fold.pay.Lts as lts
 
 abbrev Inv-loop : tie.InvT-loop
 Inv-loop r₀ w q s p n i₀ r i =

@@ -5,9 +5,6 @@ use Rattle.format.specs.Bytes.{fieldAt}
 use borrow.Author.Needs.{needs}
 use Rattle.crc.proofs.fold.room.Statement.{statement}
 use Rattle.crc.proofs.fold.room.Tie as tie
-use Rattle.crc.proofs.fold.room.Reads as reads
-use Rattle.crc.proofs.fold.room.Lts as lts
-use Rattle.crc.proofs.fold.shift.Reads as shift-reads
 
 -- src/fold.rt:41:9
 returns : tie.Need-returns

@@ -8,8 +8,6 @@ use Rattle.crc.proofs.Window.{filled-set, move-turn}
 use borrow.Author.Needs.{needs}
 use Rattle.crc.proofs.fold.shift.Statement.{statement}
 use Rattle.crc.proofs.fold.shift.Tie as tie
-use Rattle.crc.proofs.fold.shift.Reads as reads
-use Rattle.crc.proofs.fold.shift.Lts as lts
 
 abbrev Inv-loop : tie.InvT-loop
 Inv-loop w₀ i₀ w i =

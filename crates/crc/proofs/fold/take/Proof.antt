@@ -9,8 +9,6 @@ use Rattle.crc.proofs.Window.{bytes-of, filled-set, taken-below, fold-t
 use borrow.Author.Needs.{needs}
 use Rattle.crc.proofs.fold.take.Statement.{statement}
 use Rattle.crc.proofs.fold.take.Tie as tie
-use Rattle.crc.proofs.fold.take.Reads as reads
-use Rattle.crc.proofs.fold.take.Lts as lts
 
 abbrev Inv-loop : tie.InvT-loop
 Inv-loop w₀ q s p i₀ w i =
