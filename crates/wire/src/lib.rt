@@ -91,11 +91,17 @@ pub fn same_bytes(s: &[u8], a: usize, b: usize, n: usize) -> bool
     requires { ⌜ (a + n ≤ length (now s)) × (b + n ≤ length (now s)) ⌝ }
     ensures { λ r. ⌜ SameIs (now (s .entry)) a b n r ⌝ }
 {
+    let mut i: usize = 0;
     if n < 8 {
-        return number(s, a, n) == number(s, b, n);
+        while i < n {
+            if s[a + i] != s[b + i] {
+                return false;
+            }
+            i += 1;
+        }
+        return true;
     }
     let last = n - 8;
-    let mut i: usize = 0;
     while i < last {
         if word(s, a + i) != word(s, b + i) {
             return false;
