@@ -86,22 +86,31 @@ pub fn turned(x: u64) -> u64
     v
 }
 
-// The n bytes at one place are those at another. The last eight are compared at once, some of them again.
-pub fn same_bytes(s: &[u8], a: usize, b: usize, n: usize) -> bool
+// The n bytes at one place are those at another: one by one.
+fn same_few(s: &[u8], a: usize, b: usize, n: usize) -> bool
     requires { ⌜ (a + n ≤ length (now s)) × (b + n ≤ length (now s)) ⌝ }
     ensures { λ r. ⌜ SameIs (now (s .entry)) a b n r ⌝ }
 {
     let mut i: usize = 0;
-    if n < 8 {
-        while i < n {
-            if s[a + i] != s[b + i] {
-                return false;
-            }
-            i += 1;
+    while i < n {
+        if s[a + i] != s[b + i] {
+            return false;
         }
-        return true;
+        i += 1;
+    }
+    true
+}
+
+// The same, eight at a time. The last eight are compared at once, some of them again.
+pub fn same_bytes(s: &[u8], a: usize, b: usize, n: usize) -> bool
+    requires { ⌜ (a + n ≤ length (now s)) × (b + n ≤ length (now s)) ⌝ }
+    ensures { λ r. ⌜ SameIs (now (s .entry)) a b n r ⌝ }
+{
+    if n < 8 {
+        return same_few(s, a, b, n);
     }
     let last = n - 8;
+    let mut i: usize = 0;
     while i < last {
         if word(s, a + i) != word(s, b + i) {
             return false;
