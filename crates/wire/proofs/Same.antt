@@ -38,6 +38,10 @@ by-bytes s at x h e =
     let l₈ : fieldAt s (at + 8) 0 ≡ 0 = none-left s (at + 8) in
     omega arith
 
+-- one byte is a number
+pub one-byte : (s : List ℕ) (p : ℕ) → p < length s → getD s p 0 ≡ fieldAt s p 1
+one-byte s p h = let l : fieldAt s p 1 ≡ fieldAt s (p + 1) 0 * 256 + getD s p 0 = below s p (p + 1) 0 (omega arith) h in omega (arith, none-left s (p + 1))
+
 clash : false ≡ true → ⊥
 clash e = let z : _≡_ {A = ℕ} 0 1 = cc in omega arith
 
@@ -84,32 +88,30 @@ not-same s a b i k n h ha hb f e =
 
 -- ---- in the words of the code
 
-module _ (s : List ℕ) (w : Bytes s) (a b n : ℕ) (ha : a + n ≤ length s) (hb : b + n ≤ length s) where
-  -- the k bytes after the first i that are the same are the last
-  last-ones : (i k : ℕ) → i + k ≡ n → (x y : ℕ) → x ≡ fieldAt s (a + i) k → y ≡ fieldAt s (b + i) k → take i (drop a s) ≡ take i (drop b s) → SameIs s a b n (eqb x y)
-  last-ones i k m x y xi yi e = (
-    λ t. ap (λ (z : ℕ). take z (drop a s)) (sym m) ∙ same-more s a b i k w (omega arith) (omega arith) e (sym xi ∙ eqb-eq x y t ∙ yi) ∙ ap (λ (z : ℕ). take z (drop b s)) m,
-    λ t. not-same s a b i k n (omega arith) ha hb (λ z. clash (sym t ∙ eq-eqb x y (xi ∙ z ∙ sym yi))),
-  )
+-- the first i are the same, so any n of these are
+module _ (s : List ℕ) (a b i : ℕ) (e : take i (drop a s) ≡ take i (drop b s)) where
+  up-to : (n : ℕ) → n ≤ i → take n (drop a s) ≡ take n (drop b s)
+  up-to n h = sym (take-take n i (drop a s) h) ∙ ap (take n) e ∙ take-take n i (drop b s) h
 
-  pub s-few : (x y : ℕ) → x ≡ fieldAt s a n → y ≡ fieldAt s b n → SameIs s a b n (eqb x y)
-  s-few x y xi yi =
-      let p : a ≡ a + 0 = omega arith in
-      let q : b ≡ b + 0 = omega arith in
-      last-ones 0 n (omega arith) x y (xi ∙ ap (λ (z : ℕ). fieldAt s z n) p) (yi ∙ ap (λ (z : ℕ). fieldAt s z n) q) refl
+  pub s-all : (n : ℕ) → n ≤ i → SameIs s a b n true
+  s-all n h = (λ t. up-to n h, λ t. absurd (clash (sym t)))
 
-  module _ (h : 8 ≤ n) (i : ℕ) (e : take i (drop a s) ≡ take i (drop b s)) where
-    module _ (hi : i < n - 8) (x y : ℕ) (xi : x ≡ fieldAt s (a + i) 8) (yi : y ≡ fieldAt s (b + i) 8) where
-      pub s-other : (x ≡ y → ⊥) → SameIs s a b n false
-      s-other f = (λ e. absurd (clash e), λ e. not-same s a b i 8 n (omega arith) ha hb (λ z. f (xi ∙ z ∙ sym yi)))
+module _ (s : List ℕ) (a b n : ℕ) (ha : a + n ≤ length s) (hb : b + n ≤ length s) where
+  -- the k bytes after the first i make x and y
+  module _ (i k x y : ℕ) (xi : x ≡ fieldAt s (a + i) k) (yi : y ≡ fieldAt s (b + i) k) (h : i + k ≤ n) where
+    pub s-other : (x ≡ y → ⊥) → SameIs s a b n false
+    s-other f = (λ e. absurd (clash e), λ e. not-same s a b i k n h ha hb (λ z. f (xi ∙ z ∙ sym yi)))
 
-      pub s-again : x ≡ y → (i + 8 ≤ n) × (take (i + 8) (drop a s) ≡ take (i + 8) (drop b s))
-      s-again f = (omega arith, same-more s a b i 8 w (omega arith) (omega arith) e (sym xi ∙ f ∙ yi))
+    pub s-again : Bytes s → take i (drop a s) ≡ take i (drop b s) → x ≡ y → (i + k ≤ n) × (take (i + k) (drop a s) ≡ take (i + k) (drop b s))
+    s-again w e f = (h, same-more s a b i k w (omega arith) (omega arith) e (sym xi ∙ f ∙ yi))
 
-    pub s-last : n - 8 ≤ i → (x y : ℕ) → x ≡ fieldAt s (a + (n - 8)) 8 → y ≡ fieldAt s (b + (n - 8)) 8 → SameIs s a b n (eqb x y)
-    s-last l x y xi yi =
-        last-ones (n - 8) 8 (omega arith) x y xi yi
-        (sym (take-take (n - 8) i (drop a s) l) ∙ ap (take (n - 8)) e ∙ take-take (n - 8) i (drop b s) l)
+  -- the last k of them make x and y, and those before are the same
+  pub s-last : Bytes s → (i k x y : ℕ) → x ≡ fieldAt s (a + (n - k)) k → y ≡ fieldAt s (b + (n - k)) k → k ≤ n → n - k ≤ i → take i (drop a s) ≡ take i (drop b s) → SameIs s a b n (eqb x y)
+  s-last w i k x y xi yi h l e =
+      let m : n - k + k ≡ n = omega arith in (
+        λ t. ap (λ (z : ℕ). take z (drop a s)) (sym m) ∙ s-again (n - k) k x y xi yi (omega arith) w (up-to s a b i e (n - k) l) (eqb-eq x y t) .1 ∙ ap (λ (z : ℕ). take z (drop b s)) m,
+        λ t. s-other (n - k) k x y xi yi (omega arith) (λ z. clash (sym t ∙ eq-eqb x y z)) .1 refl,
+      )
 
 -- ---- a part by its two places
 
