@@ -1,4 +1,6 @@
 // CRC-32 of a slice: a short one by words, a long one by a window of bytes.
+#![tactic(auto)]
+
 ghost use Rattle.std.specs.Prelude.{◌≡◌, ◌^◌, ◌<◌, ◌≤◌, length};
 ghost use Rattle.format.specs.Crc.{crc_from, crc32};
 

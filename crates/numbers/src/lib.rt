@@ -1,4 +1,6 @@
 // Answers as numbers, written to places that are lent.
+#![tactic(auto)]
+
 ghost use Rattle.std.specs.Prelude.{◌≡◌};
 ghost use Rattle.format.specs.Answers as Answers;
 ghost use Rattle.format.specs.Answers.{fields};

@@ -2,6 +2,8 @@
 // entry, as exported functions. They take and give numbers alone: a slice is a pointer and a length, what is answered is written to places that
 // the caller lends, and the number returned is 0, or the refusal's (01, Refusal numbers). Any bytes and any numbers may be handed in. A name or a
 // text is a place and a length in the log, 0 and 0 where there is none.
+#![tactic(auto)]
+
 ghost use Rattle.std.specs.Prelude.{◌≡◌, ◌/◌, length as size};
 ghost use Rattle.format.specs.Walk.{judge};
 ghost use Rattle.format.specs.Answers.{check_of, list_of, written, change_of, value_of};

@@ -1,4 +1,6 @@
 // Numbers, packed numbers and bits at places of a byte string.
+#![tactic(auto)]
+
 ghost use Rattle.std.specs.Prelude.{◌≡◌, cond, ◌+◌, ◌*◌, ◌/◌, ◌%◌, ◌^◌, ◌≤◌, ◌<◌, pos, ◌-ℤ◌, nat_abs, leb, length};
 ghost use Rattle.format.specs.Bytes.{field_at, big_at};
 ghost use Rattle.format.specs.Columns.{bit, bits, count, bit_bytes};

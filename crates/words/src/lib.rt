@@ -1,5 +1,7 @@
 // The register of CRC-32 after a slice, without tables. The bytes are words of 64 bits. The first word is carried forward: xored, shifted, into
 // those that follow it, by a multiple of the polynomial that has few terms. So there is one word less, until one is left.
+#![tactic(auto)]
+
 ghost use Rattle.std.specs.Prelude.{◌≡◌, ℕ, ◌+◌, ◌-◌, ◌*◌, ◌%◌, ◌^◌, ◌<◌, ◌≤◌, length, drop};
 ghost use Rattle.std.specs.Int.Bits.{bit_xor};
 ghost use Rattle.format.specs.Bytes.{num};
