@@ -1,7 +1,14 @@
 // Reads each log that an argument names, and prints the name and what the log is answered: as the program readlog does, and of a log that
 // isn't long every answer of Listing, Change and Value, up to the first that is refused.
+#![tactic(auto)]
+
 use entry::{Changed, Valued};
 use events::Checked;
+use std::env::FillError;
+use std::fs::File;
+use std::io::{Error, ErrorKind};
+use std::os::fd::AsRawFd;
+use std::rt::Env;
 
 // what a lent buffer holds before a listing
 const MARK: u32 = 0xa5a5a5a5;
@@ -113,37 +120,67 @@ fn ask_all(log: &[u8]) {
     }
 }
 
-fn print_file(path: &[u8]) {
-    io::write_all(1, b"== ");
-    io::write_all(1, path);
-    io::write_all(1, b"\n");
-    let fd = os::open_read(path);
-    if fd < 0 {
-        os::fail(path);
-        return;
+// Opens the file for reading. The library takes no name that isn't UTF-8.
+fn open_read(rt: &HostRuntime, path: &[u8]) -> Result<File, Error> {
+    match std::str::from_utf8(path) {
+        Ok(name) => File::open(rt, name),
+        Err(_) => Err(Error::from(ErrorKind::InvalidInput)),
     }
+}
+
+// Writes a line to standard error: the name, a colon and the error's text.
+fn fail(rt: &HostRuntime, path: &[u8], error: Error) {
+    io::write_all(2, path);
+    io::write_all(2, b": ");
+    let _ = rt.eprintln(error);
+}
+
+// Asks of what an open file holds.
+fn print_opened(file: &File) {
     // one byte more than is read of a log, so that a longer one shows
     let mut input = [0u8; 65537];
-    let n = io::read_full(fd, &mut input);
-    libc::close(fd);
+    let n = io::read_full(file.as_raw_fd(), &mut input);
     report::print_input(&input[..n]);
     if n <= 32_768 {
         ask_all(&input[..n]);
     }
 }
 
-// The log that argument i names.
-fn print_argument(i: usize) {
-    let mut path = io::buffer();
-    let length = os::arg(i, &mut path);
-    print_file(&path[..length]);
+fn print_file(rt: &HostRuntime, path: &[u8]) {
+    io::write_all(1, b"== ");
+    io::write_all(1, path);
+    io::write_all(1, b"\n");
+    match open_read(rt, path) {
+        Ok(file) => print_opened(&file),
+        Err(error) => fail(rt, path, error),
+    }
 }
 
-fn main() {
-    let count = os::arg_count();
+// The log that argument i names.
+fn print_argument(rt: &HostRuntime, i: usize) {
+    let mut path = io::buffer();
+    let length = rt.arg(i, &mut path).unwrap_or(0);
+    print_file(rt, &path[..length]);
+}
+
+// How many arguments the program was started with, its own name among them.
+fn arg_count(rt: &HostRuntime) -> usize {
+    let mut i: usize = 0;
+    while i < usize::MAX {
+        match rt.arg(i, &mut [0u8; 0]) {
+            Err(FillError::NotPresent) => return i,
+            _ => {}
+        }
+        i += 1;
+    }
+    i
+}
+
+fn main(rt: HostRuntime) {
+    let count = arg_count(&rt);
     let mut i: usize = 1;
     while i < count {
-        print_argument(i);
+        print_argument(&rt, i);
         i += 1;
     }
 }

@@ -1,4 +1,5 @@
 // Reads a log from standard input and prints what it is answered.
+#![tactic(auto)]
 
 fn main() {
     // one byte more than is read of a log, so that a longer one shows

@@ -1,4 +1,6 @@
 // The lines that a program prints of a log. Each question is asked, its answer printed and handed back.
+#![tactic(auto)]
+
 ghost use Rattle.std.specs.Prelude.{◌≡◌, leb, length};
 ghost use Rattle.format.specs.Walk.{judge};
 ghost use Rattle.format.specs.Answers.{list_of, written, change_of, value_of};
