@@ -165,15 +165,12 @@ fn print_argument(rt: &HostRuntime, i: usize) {
 
 // How many arguments the program was started with, its own name among them.
 fn arg_count(rt: &HostRuntime) -> usize {
-    let mut i: usize = 0;
-    while i < usize::MAX {
-        match rt.arg(i, &mut [0u8; 0]) {
-            Err(FillError::NotPresent) => return i,
-            _ => {}
+    for i in 0..usize::MAX {
+        if let Err(FillError::NotPresent) = rt.arg(i, &mut [0u8; 0]) {
+            return i;
         }
-        i += 1;
     }
-    i
+    usize::MAX
 }
 
 fn main(rt: HostRuntime) {
