@@ -3,13 +3,10 @@ use Rattle.words.proofs.Carry.{shifts_are}
 use Rattle.words.specs.Words.{inverse₂}
 use lib.Bits.{bit_xor}
 use mathlib.Core.Path.{sym, ap, ◌∙◌}
-use Rattle.words.proofs.inverse_two.Statement.{statement}
-use Rattle.words.proofs.inverse_two.Tie as tie
+use Rattle.words.proofs.inverse_two.Goals as goal
 
--- src/lib.rt:85:1
-returns : tie.Need-returns
-returns c =
-    let x = c.args.x in
+pub returns : goal.returns
+returns c = let x = c.args.x in
     let h = c.ranges.x.fits in
     let u = both it (moved 1 it) in
     let v = both it (moved 3 it) in
@@ -17,6 +14,3 @@ returns c =
     (both v (both (moved 9 u) (both (moved 13 v) (both (moved 24 v) (both (moved 28 it) (both (moved 34 it) (both (moved 40 it)
     (both (moved 45 it) (both (moved 50 it) (moved 54 u)))))))))) x h
     ∙ ap (bit_xor x) (sym (shifts_are 64 inverse₂ x h))
-
-pub inverse-two-spec : {M : Type 1} → statement M
-inverse-two-spec = tie.close (tie.spec returns)
