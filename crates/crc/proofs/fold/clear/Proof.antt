@@ -4,7 +4,7 @@ use native.Mathlib.Omega.{arith}
 use lib.ListN.{length}
 use Rattle.format.specs.Bytes.{field_at}
 use Rattle.crc.specs.Window.{Filled}
-use Rattle.crc.proofs.Window.{field-all, filled-set, clear-turn}
+use Rattle.crc.proofs.Window.{field_all, filled-set, clear_turn}
 use lib.Dec.{lit<}
 use borrow.Author.Rules.{rules}
 use Rattle.crc.proofs.fold.clear.Statement.{statement}
@@ -47,7 +47,7 @@ loop-again c =
     let l = c.before.loop in
     let f : Filled 2944 l.w = l.invariant.2 in
     let n : length l.w ≡ 2944 = f.size in
-    (search rules, search rules, filled-set l.w l.i 0 f (lit< tt), clear-turn l.w q l.i (omega arith) (omega arith) ∙ l.invariant.3)
+    (search rules, search rules, filled-set l.w l.i 0 f (lit< tt), clear_turn l.w q l.i (omega arith) (omega arith) ∙ l.invariant.3)
 
 -- src/fold.rt:48:1
 returns : tie.Need-returns invariant-loop decreases-loop
@@ -56,7 +56,7 @@ returns c =
     let l = c.before.loop in
     let f : Filled 2944 l.w = l.invariant.2 in
     let n : length l.w ≡ 2944 = f.size in
-    (f, sym (field-all l.w q (l.i - q) (omega arith)) ∙ l.invariant.3)
+    (f, sym (field_all l.w q (l.i - q) (omega arith)) ∙ l.invariant.3)
 
 pub clear_spec : {M : Type 1} → statement M
 clear_spec =

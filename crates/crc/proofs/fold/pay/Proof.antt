@@ -5,7 +5,7 @@ use lib.Bits.{bit_xor}
 use lib.ListN.{length, get_or}
 use Rattle.format.specs.Bytes.{field_at}
 use Rattle.crc.specs.Window.{fallen, Filled}
-use Rattle.crc.proofs.Window.{bytes_of, filled-set, taken-below, Left, pay-turn, pay-start, pay-end}
+use Rattle.crc.proofs.Window.{bytes_of, filled-set, taken_below, Left, pay_turn, pay_start, pay_end}
 use borrow.Author.Rules.{rules}
 use Rattle.crc.proofs.fold.pay.Statement.{statement}
 use Rattle.crc.proofs.fold.pay.Tie as tie
@@ -25,7 +25,7 @@ sub-n c = search rules
 loop-holds : tie.Need-loop-init invariant-loop decreases-loop
 loop-holds c =
     let a = c.args in
-    (search rules, search rules, pay-start a.s.now a.w.now a.r.now a.p a.q)
+    (search rules, search rules, pay_start a.s.now a.w.now a.r.now a.p a.q)
 
 -- src/fold.rt:67:17
 add-k : tie.Need-overflow-add-k invariant-loop decreases-loop
@@ -94,8 +94,8 @@ loop-again c =
     let k = a.q + l.i in
     let x = bit_xor (fallen w k) (get_or s (a.p + l.i) 0) in (
       search rules,
-      filled-set l.r l.i x f (taken-below s w (a.p + l.i) k bs (bytes_of g)),
-      pay-turn s w l.r a.p a.q l.i x bs (bytes_of g) (omega arith) (omega arith) (omega arith) refl
+      filled-set l.r l.i x f (taken_below s w (a.p + l.i) k bs (bytes_of g)),
+      pay_turn s w l.r a.p a.q l.i x bs (bytes_of g) (omega arith) (omega arith) (omega arith) refl
           ∙ l.invariant.2,
     )
 
@@ -111,7 +111,7 @@ returns c =
     let e : l.i ≡ length s - a.p = omega arith in (
       l.invariant.1,
       ap (field_at l.r 0) (sym e)
-          ∙ pay-end s w l.r a.p a.q l.i (bytes_of g) (search rules) (omega arith) (omega arith) (omega arith) l.invariant.2,
+          ∙ pay_end s w l.r a.p a.q l.i (bytes_of g) (search rules) (omega arith) (omega arith) (omega arith) l.invariant.2,
     )
 
 pub pay-spec : {M : Type 1} → statement M

@@ -4,7 +4,7 @@ use native.Mathlib.Omega.{arith}
 use lib.ListN.{length, get_or, drop}
 use Rattle.format.specs.Bytes.{field_at}
 use Rattle.crc.specs.Window.{Filled}
-use Rattle.crc.proofs.Window.{filled-set, move-turn}
+use Rattle.crc.proofs.Window.{filled-set, move_turn}
 use borrow.Author.Rules.{rules}
 use Rattle.crc.proofs.fold.shift.Statement.{statement}
 use Rattle.crc.proofs.fold.shift.Tie as tie
@@ -53,7 +53,7 @@ loop-again c =
     let f : Filled 2944 l.w = l.invariant.1 in
     let n : length l.w ≡ 2944 = f.size in
     let n₀ : length w₀ ≡ 2944 = l.invariant.4 in
-    let t = move-turn w₀ l.w 61 2109 l.i l.invariant.2 l.invariant.3 (omega arith) (omega arith) (omega arith) in
+    let t = move_turn w₀ l.w 61 2109 l.i l.invariant.2 l.invariant.3 (omega arith) (omega arith) (omega arith) in
     (search rules, filled-set l.w (61 + l.i) (get_or l.w (2109 + l.i) 0) f (f.each (2109 + l.i)), t.0, t.1, n₀)
 
 -- src/fold.rt:25:1

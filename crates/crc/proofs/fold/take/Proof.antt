@@ -5,7 +5,7 @@ use native.Mathlib.Omega.{arith}
 use lib.Bits.{bit_xor}
 use lib.ListN.{length, get_or}
 use Rattle.crc.specs.Window.{fallen, register, Filled}
-use Rattle.crc.proofs.Window.{bytes_of, filled-set, taken-below, fold-turn}
+use Rattle.crc.proofs.Window.{bytes_of, filled-set, taken_below, fold_turn}
 use borrow.Author.Rules.{rules}
 use Rattle.crc.proofs.fold.take.Statement.{statement}
 use Rattle.crc.proofs.fold.take.Tie as tie
@@ -91,8 +91,8 @@ loop-again c =
     let k = a.q + l.i in
     let x = bit_xor (fallen l.w k) (get_or s (a.p + l.i) 0) in (
       search rules,
-      filled-set l.w (k + 515) x f (taken-below s l.w (a.p + l.i) k bs (bytes_of f)),
-      fold-turn s l.w (a.p + l.i) k (a.p + (l.i + 1)) (a.q + (l.i + 1)) x bs (bytes_of f) (omega arith) (omega arith) (omega arith) (omega arith) refl
+      filled-set l.w (k + 515) x f (taken_below s l.w (a.p + l.i) k bs (bytes_of f)),
+      fold_turn s l.w (a.p + l.i) k (a.p + (l.i + 1)) (a.q + (l.i + 1)) x bs (bytes_of f) (omega arith) (omega arith) (omega arith) (omega arith) refl
           ∙ l.invariant.2,
     )
 
