@@ -7,8 +7,8 @@ use lib.ListN.{length, drop}
 use lib.Dec.{lit≤}
 use lib.Bits.{xor_zero_r}
 use native.Mathlib.Omega.{arith}
-use Prim.Native.Nat.{ℕ, ◌+◌, ◌-◌, ◌*◌, ◌%◌, ◌≤◌}
-use mathlib.Core.Path.{◌≡◌, refl, ap, ◌∙◌}
+use Prim.Native.Nat.{ℕ, ◌+◌, ◌-◌, ◌*◌}
+use mathlib.Core.Path.{refl, ap, ◌∙◌}
 use borrow.Author.Rules.{rules}
 use Rattle.words.proofs.few.Goals as goal
 
@@ -22,12 +22,12 @@ loop-i-init c = let a = c.args in
 
 pub loop-i-preserved : goal.loop-i-preserved
 loop-i-preserved c = let l = c.loop-i in (
-      search rules,
-      search rules,
-      turn _ l.i _ c.word.result 128 127 (two l.t) (two c.carry_near-t.result) c.word.ensures (omega arith) refl (lit≤ tt)
-          c.carry_near-t.ensures
-          ∙ l.invariant.2,
-    )
+  search rules,
+  search rules,
+  turn _ l.i _ c.word.result 128 127 (two l.t) (two c.carry_near-t.result) c.word.ensures (omega arith) refl (lit≤ tt)
+      c.carry_near-t.ensures
+      ∙ l.invariant.2,
+)
 
 pub returns : goal.returns
 returns c = let s = c.args.s.now in

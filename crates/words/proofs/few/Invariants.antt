@@ -1,15 +1,10 @@
-use Rattle.words.proofs.Ends.{turn, over}
 use Rattle.words.specs.Front.{two}
 use Rattle.words.specs.Words.{on}
 use Rattle.format.specs.Crc.{bit_steps}
 use Rattle.format.specs.Bytes.{num}
 use lib.ListN.{length, drop}
-use lib.Dec.{lit≤}
-use lib.Bits.{xor_zero_r}
-use native.Mathlib.Omega.{arith}
-use Prim.Native.Nat.{ℕ, ◌+◌, ◌-◌, ◌*◌, ◌%◌, ◌≤◌}
-use mathlib.Core.Path.{◌≡◌, refl, ap, ◌∙◌}
-use borrow.Author.Rules.{rules}
+use Prim.Native.Nat.{◌+◌, ◌-◌, ◌*◌, ◌%◌, ◌≤◌}
+use mathlib.Core.Path.{◌≡◌}
 use Rattle.words.proofs.few.Given as goal
 
 abbrev pub invariant-loop-i : goal.invariant-loop-i

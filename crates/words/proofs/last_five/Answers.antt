@@ -6,7 +6,6 @@ use lib.Dec.{lit≤}
 use lib.Bits.{xor_zero_r}
 use Prim.Native.Nat.{ℕ}
 use mathlib.Core.Path.{ap, ◌∙◌}
-use borrow.Author.Rules.{rules}
 use Rattle.words.proofs.last_five.Goals as goal
 
 pub returns : goal.returns

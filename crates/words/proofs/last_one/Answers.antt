@@ -1,6 +1,5 @@
 use Rattle.words.proofs.Taps.{last_word}
 use mathlib.Core.Path.{◌∙◌}
-use borrow.Author.Rules.{rules}
 use Rattle.words.proofs.last_one.Goals as goal
 
 pub returns : goal.returns

@@ -1,5 +1,4 @@
 use Rattle.words.proofs.Taps.{last_words}
-use borrow.Author.Rules.{rules}
 use Rattle.words.proofs.last_two.Goals as goal
 
 pub returns : goal.returns

@@ -2,11 +2,10 @@ use Rattle.words.proofs.Ends.{turn, over, three, three_less}
 use Rattle.words.specs.Front.{five}
 use Rattle.words.specs.Words.{on}
 use Rattle.format.specs.Crc.{bit_steps}
-use Rattle.format.specs.Bytes.{num}
-use lib.ListN.{length, drop}
+use lib.ListN.{length}
 use lib.Dec.{lit≤}
 use native.Mathlib.Omega.{arith}
-use Prim.Native.Nat.{ℕ, ◌+◌, ◌-◌, ◌*◌, ◌%◌, ◌≤◌}
+use Prim.Native.Nat.{ℕ, ◌+◌, ◌-◌, ◌*◌}
 use mathlib.Core.Path.{◌≡◌, refl, sym, ap₂, ◌∙◌}
 use borrow.Author.Rules.{rules}
 use Rattle.words.proofs.many.Goals as goal
@@ -24,12 +23,12 @@ loop-i-init c = let a = c.args in
 
 pub loop-i-preserved : goal.loop-i-preserved
 loop-i-preserved c = let l = c.loop-i in (
-      search rules,
-      search rules,
-      turn _ l.i _ c.word-in-loop-i.result 320 268 (five l.f) (five c.carry_far-f.result) c.word-in-loop-i.ensures (omega arith) refl (lit≤ tt)
-          c.carry_far-f.ensures
-          ∙ l.invariant.2,
-    )
+  search rules,
+  search rules,
+  turn _ l.i _ c.word-in-loop-i.result 320 268 (five l.f) (five c.carry_far-f.result) c.word-in-loop-i.ensures (omega arith) refl (lit≤ tt)
+      c.carry_far-f.ensures
+      ∙ l.invariant.2,
+)
 
 pub returns : goal.returns
 returns c = let s = c.args.s.now in

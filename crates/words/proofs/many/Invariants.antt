@@ -1,14 +1,10 @@
-use Rattle.words.proofs.Ends.{turn, over, three, three_less}
 use Rattle.words.specs.Front.{five}
 use Rattle.words.specs.Words.{on}
 use Rattle.format.specs.Crc.{bit_steps}
 use Rattle.format.specs.Bytes.{num}
 use lib.ListN.{length, drop}
-use lib.Dec.{lit≤}
-use native.Mathlib.Omega.{arith}
-use Prim.Native.Nat.{ℕ, ◌+◌, ◌-◌, ◌*◌, ◌%◌, ◌≤◌}
-use mathlib.Core.Path.{◌≡◌, refl, sym, ap₂, ◌∙◌}
-use borrow.Author.Rules.{rules}
+use Prim.Native.Nat.{◌+◌, ◌-◌, ◌*◌, ◌%◌, ◌≤◌}
+use mathlib.Core.Path.{◌≡◌}
 use Rattle.words.proofs.many.Given as goal
 
 abbrev pub invariant-loop-i : goal.invariant-loop-i
