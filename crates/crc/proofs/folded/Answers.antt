@@ -37,14 +37,14 @@ pub slice_bounds-after-end : goal.slice_bounds-after-end
 slice_bounds-after-end c = let s = c.args.s.now in
     let l = c.loop-p in
     let f = c.pay.ensures.fact_1 in
-    let n : length c.pay.new.0 ≡ 579 = f.size in
-    sym (length-take-le (length s - l.p) c.pay.new.0 (omega arith))
+    let n : length c.pay.new.r ≡ 579 = f.size in
+    sym (length-take-le (length s - l.p) c.pay.new.r (omega arith))
 
 pub returns : goal.returns
 returns c = let a = c.args in
     let s = a.s.now in
     let l = c.loop-p in
-    let r = c.pay.new.0 in
+    let r = c.pay.new.r in
     let f : Filled 579 r = c.pay.ensures.fact_1 in
     let n : length r ≡ 579 = f.size in
     c.after.ensures

@@ -38,8 +38,8 @@ returns c = let a = c.args in
     let w = a.w.now in
     let g : Filled 2944 w = search rules in
     let m : length w ≡ 2944 = g.size in
-    let e : l.i ≡ length s - a.p = omega arith in (
-      l.invariant.1,
-      ap (field_at l.r 0) (sym e)
-          ∙ pay_end s w l.r a.p a.q l.i (bytes_of g) (search rules) (omega arith) (omega arith) (omega arith) l.invariant.2,
-    )
+    let e : l.i ≡ length s - a.p = omega arith in record {
+      fact_1 = l.invariant.1;
+      fact_2 =       ap (field_at l.r 0) (sym e)
+          ∙ pay_end s w l.r a.p a.q l.i (bytes_of g) (search rules) (omega arith) (omega arith) (omega arith) l.invariant.2;
+    }
