@@ -38,7 +38,8 @@ def antt(crate="*"):
 
 
 def walks():
-    return sorted(glob.glob(f"{ROOT}/crates/*/proofs/*/*.antt"))
+    lemmas = set(antt())
+    return sorted(p for p in glob.glob(f"{ROOT}/crates/*/proofs/**/*.antt", recursive=True) if p not in lemmas)
 
 
 def declared(text):

@@ -8,14 +8,14 @@ ghost use Rattle.format.specs.Values.{signed};
 ghost use Rattle.wire.specs.Answer.{packed_at, long_at, SameIs, TurnedIs};
 
 // A packed number and the place after it; or one that is malformed or cut short (01, Table maps).
-#[derive(Drop)]
+#[derive(Clone, Copy)]
 pub enum Packing {
     Value(u64, usize),
     Malformed,
 }
 
 // Where reading ends: the place after what was read; or a refusal and its place.
-#[derive(Drop)]
+#[derive(Clone, Copy)]
 pub enum Ending {
     At(usize),
     Fault(u8, usize),

@@ -12,7 +12,7 @@ ghost use Rattle.words.specs.Front.{five, two};
 use wire::word;
 
 // The first five words, with all that fell on them.
-#[derive(Drop)]
+#[derive(Clone, Copy)]
 struct Five {
     a: u64,
     b: u64,
@@ -22,7 +22,7 @@ struct Five {
 }
 
 // The first two words, with all that fell on them, and what fell on the one after them.
-#[derive(Drop)]
+#[derive(Clone, Copy)]
 struct Two {
     a: u64,
     b: u64,

@@ -1,0 +1,16 @@
+use mathlib.Core.Path.{◌≡◌, refl, sym, ap, ◌∙◌}
+use Prim.Native.Nat.{◌+◌, ◌-◌, ◌*◌, ◌^◌, ◌≤◌}
+use native.Mathlib.Omega.{arith}
+use lib.Bits.{bit_xor}
+use lib.ListN.{length, get_or}
+use Rattle.format.specs.Bytes.{field_at}
+use Rattle.crc.specs.Window.{fallen, Filled}
+use Rattle.crc.proofs.Window.{bytes_of, filled-set, taken_below, Left, pay_turn, pay_start, pay_end}
+use borrow.Author.Rules.{rules}
+use Rattle.crc.proofs.fold.pay.Given as goal
+
+abbrev pub invariant-loop-i : goal.invariant-loop-i
+invariant-loop-i l = (l.i ≤ l.n) × Filled 579 l.r × (Left l.s l.w (l.p + l.i) (l.q + l.i) * 2 ^ (8 * l.i) + field_at l.r 0 l.i ≡ Left l.s l.w l.p l.q)
+
+abbrev pub decreases-loop-i : goal.decreases-loop-i
+decreases-loop-i l = l.n - l.i
