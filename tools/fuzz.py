@@ -6,8 +6,9 @@
 Makes COUNT logs by changing stored ones: bytes set, put in and taken out,
 events copied, their types and flags changed, the end cut off; nine in ten
 then get right positions and checksums again, so that what lies behind the
-framing is reached. target/bin/evidence must print of each what account.py
-says. Not part of the gate: `rt check evidence` first.
+framing is reached. The program evidence must print of each what account.py
+says. Not part of the gate: in crates/evidence `rt run` first, which proves and
+builds it (or `rt ci`).
 """
 
 import collections
@@ -21,7 +22,7 @@ import zlib
 
 import expect
 
-PROGRAM = os.path.join(expect.ROOT, "target", "bin", "evidence")
+PROGRAM = os.path.join(expect.ROOT, "crates", "evidence", "out", "evidence")
 BYTES = [0, 1, 2, 3, 4, 7, 8, 15, 16, 30, 31, 32, 127, 128, 250, 251, 252,
          253, 254, 255]
 TYPES = [2, 3, 4, 15, 16, 19, 19, 30, 31, 32, 33, 38, 20, 25, 39, 200]

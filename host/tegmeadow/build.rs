@@ -42,24 +42,20 @@ fn archive_folder() -> Result<PathBuf, String> {
         .join("../..")
         .canonicalize()
         .map_err(|e| e.to_string())?;
-    let folder = root.join("target/staticlib");
+    let library = root.join("crates/tegmeadow");
+    let folder = library.join("out");
     if !folder.join(ARCHIVE).is_file() {
-        make(&root)?;
+        make(&library)?;
     }
     Ok(folder)
 }
 
 /// Proves the library and writes the archive.
-fn make(root: &Path) -> Result<(), String> {
-    let run = Command::new("rt")
-        .args(["staticlib", "tegmeadow"])
-        .current_dir(root)
-        .status();
+fn make(library: &Path) -> Result<(), String> {
+    let run = Command::new("rt").arg("lib").current_dir(library).status();
     match run {
         Ok(status) if status.success() => Ok(()),
-        Ok(status) => Err(format!("rt staticlib tegmeadow: {status}")),
-        Err(e) => Err(format!(
-            "rt staticlib tegmeadow: {e} (is the Rattle toolchain there?)"
-        )),
+        Ok(status) => Err(format!("rt lib in {}: {status}", library.display())),
+        Err(e) => Err(format!("rt lib: {e} (is the Rattle toolchain there?)")),
     }
 }

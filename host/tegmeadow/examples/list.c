@@ -1,5 +1,5 @@
 /* Lists a log: a line for each row change with its kind, its table and its
- * places.  cc list.c -I include -L target/staticlib -ltegmeadow -o list */
+ * places.  cc list.c -I include -L crates/tegmeadow/out -ltegmeadow -o list */
 #include "tegmeadow.h"
 
 #include <stdio.h>
