@@ -1,13 +1,13 @@
 use mathlib.Core.Path.{◌≡◌, refl, sym, ap, ◌∙◌}
-use Prim.Native.Nat.{ℕ, ◌+◌, ◌-◌, ◌*◌, ◌%◌, ◌^◌, ◌≤◌, ◌<◌}
+use Prim.Native.Nat.{ℕ, ◌-◌, ◌*◌, ◌^◌, ◌<◌}
 use native.Mathlib.Omega.{arith}
 use lib.Bits.{bit_xor}
 use lib.ListN.{length, drop}
 use lib.Seq.{length-take-le}
 use Rattle.format.specs.Bytes.{num}
-use Rattle.format.specs.Crc.{bit_steps, crc_from}
+use Rattle.format.specs.Crc.{bit_steps}
 use Rattle.words.specs.Words.{mix}
-use Rattle.crc.specs.Window.{folds, register, Filled}
+use Rattle.crc.specs.Window.{folds, Filled}
 use Rattle.crc.proofs.Window.{bytes_of, filled_none, small, fold_start, first, begun, first-filled, fold_end}
 use borrow.Author.Rules.{rules}
 use Rattle.crc.proofs.folded.Goals as goal

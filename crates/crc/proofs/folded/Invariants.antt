@@ -1,15 +1,8 @@
-use mathlib.Core.Path.{◌≡◌, refl, sym, ap, ◌∙◌}
-use Prim.Native.Nat.{ℕ, ◌+◌, ◌-◌, ◌*◌, ◌%◌, ◌^◌, ◌≤◌, ◌<◌}
-use native.Mathlib.Omega.{arith}
-use lib.Bits.{bit_xor}
-use lib.ListN.{length, drop}
-use lib.Seq.{length-take-le}
-use Rattle.format.specs.Bytes.{num}
-use Rattle.format.specs.Crc.{bit_steps, crc_from}
-use Rattle.words.specs.Words.{mix}
-use Rattle.crc.specs.Window.{folds, register, Filled}
-use Rattle.crc.proofs.Window.{bytes_of, filled_none, small, fold_start, first, begun, first-filled, fold_end}
-use borrow.Author.Rules.{rules}
+use mathlib.Core.Path.{◌≡◌}
+use Prim.Native.Nat.{◌+◌, ◌-◌, ◌%◌, ◌≤◌}
+use lib.ListN.{length}
+use Rattle.format.specs.Crc.{crc_from}
+use Rattle.crc.specs.Window.{register, Filled}
 use Rattle.crc.proofs.folded.Given as goal
 
 abbrev pub invariant-loop-p : goal.invariant-loop-p

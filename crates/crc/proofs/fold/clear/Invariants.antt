@@ -1,12 +1,7 @@
-use mathlib.Core.Path.{◌≡◌, sym, ap, ◌∙◌}
+use mathlib.Core.Path.{◌≡◌}
 use Prim.Native.Nat.{◌+◌, ◌-◌, ◌≤◌}
-use native.Mathlib.Omega.{arith}
-use lib.ListN.{length}
 use Rattle.format.specs.Bytes.{field_at}
 use Rattle.crc.specs.Window.{Filled}
-use Rattle.crc.proofs.Window.{field_all, filled-set, clear_turn}
-use lib.Dec.{lit<}
-use borrow.Author.Rules.{rules}
 use Rattle.crc.proofs.fold.clear.Given as goal
 
 abbrev pub invariant-loop-i : goal.invariant-loop-i

@@ -1,11 +1,11 @@
 use mathlib.Core.Path.{◌≡◌, refl, sym, ap, ◌∙◌}
-use Prim.Native.Nat.{◌+◌, ◌-◌, ◌*◌, ◌^◌, ◌≤◌}
+use Prim.Native.Nat.{◌+◌, ◌-◌}
 use native.Mathlib.Omega.{arith}
 use lib.Bits.{bit_xor}
 use lib.ListN.{length, get_or}
 use Rattle.format.specs.Bytes.{field_at}
 use Rattle.crc.specs.Window.{fallen, Filled}
-use Rattle.crc.proofs.Window.{bytes_of, filled-set, taken_below, Left, pay_turn, pay_start, pay_end}
+use Rattle.crc.proofs.Window.{bytes_of, filled-set, taken_below, pay_turn, pay_start, pay_end}
 use borrow.Author.Rules.{rules}
 use Rattle.crc.proofs.fold.pay.Goals as goal
 
@@ -40,6 +40,6 @@ returns c = let a = c.args in
     let m : length w ≡ 2944 = g.size in
     let e : l.i ≡ length s - a.p = omega arith in record {
       fact_1 = l.invariant.1;
-      fact_2 =       ap (field_at l.r 0) (sym e)
+      fact_2 = ap (field_at l.r 0) (sym e)
           ∙ pay_end s w l.r a.p a.q l.i (bytes_of g) (search rules) (omega arith) (omega arith) (omega arith) l.invariant.2;
     }

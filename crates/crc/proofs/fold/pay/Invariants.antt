@@ -1,12 +1,8 @@
-use mathlib.Core.Path.{◌≡◌, refl, sym, ap, ◌∙◌}
+use mathlib.Core.Path.{◌≡◌}
 use Prim.Native.Nat.{◌+◌, ◌-◌, ◌*◌, ◌^◌, ◌≤◌}
-use native.Mathlib.Omega.{arith}
-use lib.Bits.{bit_xor}
-use lib.ListN.{length, get_or}
 use Rattle.format.specs.Bytes.{field_at}
-use Rattle.crc.specs.Window.{fallen, Filled}
-use Rattle.crc.proofs.Window.{bytes_of, filled-set, taken_below, Left, pay_turn, pay_start, pay_end}
-use borrow.Author.Rules.{rules}
+use Rattle.crc.specs.Window.{Filled}
+use Rattle.crc.proofs.Window.{Left}
 use Rattle.crc.proofs.fold.pay.Given as goal
 
 abbrev pub invariant-loop-i : goal.invariant-loop-i

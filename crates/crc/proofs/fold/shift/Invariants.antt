@@ -1,11 +1,8 @@
-use mathlib.Core.Path.{◌≡◌, refl, sym, ap, ◌∙◌}
-use Prim.Native.Nat.{◌+◌, ◌-◌, ◌≤◌}
-use native.Mathlib.Omega.{arith}
-use lib.ListN.{length, get_or, drop}
+use mathlib.Core.Path.{◌≡◌}
+use Prim.Native.Nat.{◌-◌, ◌≤◌}
+use lib.ListN.{length, drop}
 use Rattle.format.specs.Bytes.{field_at}
 use Rattle.crc.specs.Window.{Filled}
-use Rattle.crc.proofs.Window.{filled-set, move_turn}
-use borrow.Author.Rules.{rules}
 use Rattle.crc.proofs.fold.shift.Given as goal
 
 abbrev pub invariant-loop-i : goal.invariant-loop-i

@@ -1,12 +1,6 @@
-use mathlib.Core.Path.{◌≡◌, refl, sym, ap, ap₂, ◌∙◌}
-use Prim.Native.Nat.{ℕ, ◌+◌, ◌-◌, ◌≤◌}
-use native.Mathlib.Nat.{add-zero}
-use native.Mathlib.Omega.{arith}
-use lib.Bits.{bit_xor}
-use lib.ListN.{length, get_or}
-use Rattle.crc.specs.Window.{fallen, register, Filled}
-use Rattle.crc.proofs.Window.{bytes_of, filled-set, taken_below, fold_turn}
-use borrow.Author.Rules.{rules}
+use mathlib.Core.Path.{◌≡◌}
+use Prim.Native.Nat.{◌+◌, ◌-◌, ◌≤◌}
+use Rattle.crc.specs.Window.{register, Filled}
 use Rattle.crc.proofs.fold.take.Given as goal
 
 abbrev pub invariant-loop-i : goal.invariant-loop-i
