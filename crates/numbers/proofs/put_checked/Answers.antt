@@ -1,0 +1,9 @@
+-- What is written for an answer of the code is what the definition's asks.
+use Rattle.numbers.proofs.Told.{checked_told}
+use Rattle.numbers.proofs.put_checked.Goals as goal
+
+pub returns-in-Refused : goal.returns-in-Refused
+returns-in-Refused c = checked_told _ _ c.in-Refused.is
+
+pub returns-in-Accepted : goal.returns-in-Accepted
+returns-in-Accepted c = checked_told _ _ c.in-Accepted.is
