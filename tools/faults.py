@@ -111,8 +111,8 @@ def attempt(k, file, old, new, root, lane):
     copy = lane
     path = os.path.join(copy, "crates/format/specs", file + ".antt")
     text = open(path).read()
-    if text.count(old) < 1 or text[:text.index(old)].rsplit("\n", 1)[-1].startswith("--"):
-        return "BAD: text not found, or in a comment"
+    if text.count(old) != 1 or text[:text.index(old)].rsplit("\n", 1)[-1].startswith("--"):
+        return "BAD: text not found once, or in a comment"
     open(path, "w").write(text.replace(old, new, 1))
     try:
         # a fault that `format` does not notice is left to the theorems, over a `format` built with it
