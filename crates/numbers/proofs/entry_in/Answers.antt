@@ -1,8 +1,7 @@
--- The entry of five numbers, by its definition.
-use Rattle.std.proofs.Common.{refl}
 use Rattle.numbers.specs.Answer.{entry_in_numbers}
+use borrow.Author.Rules.{rules}
 use Rattle.numbers.proofs.entry_in.Goals as goal
 
 pub returns : goal.returns
 unfolding entry_in_numbers
-returns c = refl
+returns c = search rules

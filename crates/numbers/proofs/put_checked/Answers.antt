@@ -1,4 +1,3 @@
--- What is written for an answer of the code is what the definition's asks.
 use Rattle.numbers.proofs.Told.{checked_told}
 use Rattle.numbers.proofs.put_checked.Goals as goal
 
