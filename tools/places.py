@@ -82,11 +82,13 @@ def functions_of(path, text):
                 clauses[-1] += " " + line.strip()
             elif line.strip() != "{":
                 head += line + " "
-            if line.strip() == "{" or (not clauses and line.rstrip().endswith("{") and head.count("(") == head.count(")")):
+            if line.rstrip().endswith((";", "{}")) or line.strip() == "{" or (not clauses and line.rstrip().endswith("{") and head.count("(") == head.count(")")):
                 break
             j += 1
         k = j + 1
-        while not lines[k].startswith(indent + "}"):
+        if line.rstrip().endswith((";", "{}")):
+            k = j
+        while k > j and not lines[k].startswith(indent + "}"):
             k += 1
         note, n = [], i - 1
         while 0 <= n and re.match(r"\s*(//|#\[)", lines[n]):
@@ -236,10 +238,10 @@ def one_e_other(r):
 
 
 def one_g(r):
-    "arms of a match that take a refusal or nothing and hand it on by hand, where ?, let else or a method would"
+    "arms of a match that take a refusal or nothing, or hand a None or an Err on, by hand, where ?, let else or a method would"
     out = []
     for path, n, line in r.lines:
-        m = re.search(r"::(?:Refused|Fault)\((\w+)(?:, \w+)?\) =>|::(?:Nothing|Malformed|Stop)\b.* =>", line)
+        m = re.search(r"::(?:Refused|Fault)\((\w+)(?:, \w+)?\) =>|::(?:Nothing|Malformed|Stop)\b.* =>|\b(?:None|Err\(\w+\)) => (?:return )?(?:None|Err\()", line)
         if m:
             out.append((f"{path}:{n}", r.within(path, n), line.strip()))
     return out
