@@ -26,22 +26,11 @@ pub fn number(s: &[u8], at: usize, k: usize) -> u64
     v
 }
 
-// Two bytes.
-fn two(a: u8, b: u8) -> u64
-    ensures { (result ≡ b * 256 + a) × (result < 65536) }
-{
-    (b as u64) * 256 + (a as u64)
-}
-
 // Eight bytes as a number, the first the lowest, in a form that a compiler reads at once.
 pub fn eight(a: u8, b: u8, c: u8, d: u8, e: u8, f: u8, g: u8, h: u8) -> u64
     ensures { result ≡ ((((((h * 256 + g) * 256 + f) * 256 + e) * 256 + d) * 256 + c) * 256 + b) * 256 + a }
 {
-    let i = two(a, b);
-    let j = two(c, d);
-    let k = two(e, f);
-    let l = two(g, h);
-    (l * 65536 + k) * 4294967296 + (j * 65536 + i)
+    u64::from_le_bytes([a, b, c, d, e, f, g, h])
 }
 
 // The eight bytes from at.
@@ -49,7 +38,7 @@ pub fn word(s: &[u8], at: usize) -> u64
     requires { at + 8 ≤ length s.now }
     ensures { result ≡ field_at s.now at 8 }
 {
-    eight(
+    u64::from_le_bytes([
         s[at],
         s[at + 1],
         s[at + 2],
@@ -58,7 +47,7 @@ pub fn word(s: &[u8], at: usize) -> u64
         s[at + 5],
         s[at + 6],
         s[at + 7],
-    )
+    ])
 }
 
 // The number of the same eight bytes in the opposite order.
@@ -170,7 +159,7 @@ pub fn bit_at(s: &[u8], i: usize) -> bool
     ensures { result ≡ bit s.now i }
 {
     let k = i / 8;
-    let b = wide(s[k]);
+    let b = s[k] as u64;
     let shift = (i % 8) as u64;
     (b >> shift) % 2 == 1
 }

@@ -1,6 +1,7 @@
+use borrow.Author.Rules.{rules}
 use Rattle.format.specs.Columns.{bit}
 use Rattle.wire.proofs.bit_at.Goals as goal
 
 pub returns : goal.returns
 unfolding bit
-returns c = simp c.wide-b.ensures
+returns c = search rules
