@@ -112,6 +112,7 @@ pub fn two_complement(v: u64, n: u64) -> i64
 }
 
 // The k bytes that a packed number's first byte brings, at a place (01, Table maps).
+#[tactic(auto, unfolding(crate::specs::Answer::long_at))]
 fn long(s: &[u8], at: usize, k: usize) -> Option<PackedNumber>
     requires { (k ≤ 8) × (at ≤ length s.now) }
     ensures { result ≡ long_at s.now at k }
@@ -154,6 +155,7 @@ pub fn wide(x: u8) -> u64
 }
 
 // Bit i of a run of bytes (01, Rows events: bits run from each byte's lowest).
+#[tactic(auto, unfolding(format::specs::Columns::bit))]
 pub fn bit_at(s: &[u8], i: usize) -> bool
     requires { i / 8 < length s.now }
     ensures { result ≡ bit s.now i }

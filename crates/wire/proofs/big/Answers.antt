@@ -16,6 +16,3 @@ overflow_add-v c = let a = c.args in
 
 pub loop-b-preserved : goal.loop-b-preserved
 loop-b-preserved c = search (rules, big_more)
-
-pub returns : goal.returns
-returns c = search (rules, big_end)
