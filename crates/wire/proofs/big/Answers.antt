@@ -1,6 +1,6 @@
 use native.Mathlib.Omega.{arith}
 use borrow.Author.Rules.{rules}
-use Rattle.wire.proofs.Laws.{big_start, big_more, big_room, big_end}
+use Rattle.wire.proofs.Laws.{big_start, big_more, big_room}
 use Rattle.wire.proofs.big.Goals as goal
 
 pub loop-b-init : goal.loop-b-init

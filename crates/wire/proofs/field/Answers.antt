@@ -1,7 +1,6 @@
 use Prim.Native.Nat.{◌/◌, ◌^◌}
 use Rattle.wire.proofs.Differences.{shifted_one}
 use lib.Bits.{and_mask}
-use lib.Pow.{pow_pos}
 use Rattle.wire.proofs.field.Goals as goal
 
 pub returns : goal.returns

@@ -1,7 +1,7 @@
 use Prim.Native.Nat.{◌+◌, ◌-◌}
 use native.Mathlib.Omega.{arith}
 use borrow.Author.Rules.{rules}
-use Rattle.format.proofs.Fields.{digits_start, digits-room, digits_step, digits-end}
+use Rattle.format.proofs.Fields.{digits_start, digits-room, digits_step}
 use Rattle.wire.proofs.number.Goals as goal
 
 pub loop-i-init : goal.loop-i-init

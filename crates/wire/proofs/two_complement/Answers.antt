@@ -1,8 +1,6 @@
 use borrow.Author.Rules.{rules}
 use mathlib.Core.Path.{refl}
-use Prim.Native.Nat.{◌-◌, ◌^◌, ◌<◌}
-use native.Mathlib.Omega.{arith}
-use Rattle.wire.proofs.Laws.{half, half_of, below-zero, signed-pos, signed_neg}
+use Rattle.wire.proofs.Laws.{half_of, signed-pos, signed_neg}
 use Rattle.wire.proofs.two_complement.Goals as goal
 
 pub returns-then-v-half : goal.returns-then-v-half
