@@ -7,18 +7,11 @@ ghost use Rattle.format.specs.Columns.{bit, bits, count, bit_bytes};
 ghost use Rattle.format.specs.Values.{signed};
 ghost use Rattle.wire.specs.Answer.{packed_at, long_at, SameIs, TurnedIs};
 
-// A packed number and the place after it; or one that is malformed or cut short (01, Table maps).
-#[derive(Clone, Copy)]
-pub enum Packing {
-    Value(u64, usize),
-    Malformed,
-}
-
-// Where reading ends: the place after what was read; or a refusal and its place.
-#[derive(Clone, Copy)]
-pub enum Ending {
-    At(usize),
-    Fault(u8, usize),
+// A packed number and the place after it (01, Table maps).
+#[derive(Clone, Copy, Debug, PartialEq, Eq)]
+pub struct PackedNumber {
+    pub value: u64,
+    pub end: usize,
 }
 
 // The number in k bytes at a place, the lowest first (01, Framing: little-endian unless said).
@@ -152,39 +145,38 @@ pub fn two_complement(v: u64, n: u64) -> i64
 }
 
 // The k bytes that a packed number's first byte brings, at a place (01, Table maps).
-fn long(s: &[u8], at: usize, k: usize) -> Packing
+fn long(s: &[u8], at: usize, k: usize) -> Option<PackedNumber>
     requires { (k ≤ 8) × (at ≤ length s.now) }
     ensures { result ≡ long_at s.now at k }
 {
     if k <= s.len() - at {
-        Packing::Value(number(s, at, k), at + k)
+        Some(PackedNumber {
+            value: number(s, at, k),
+            end: at + k,
+        })
     } else {
-        Packing::Malformed
+        None
     }
 }
 
 // The packed number at a place (01, Table maps): 0 to 250 is the value; 252, 253, 254 bring 2, 3, 8 more bytes; 251 and 255 are malformed.
-pub fn packed(s: &[u8], at: usize) -> Packing
+pub fn packed(s: &[u8], at: usize) -> Option<PackedNumber>
     ensures { result ≡ packed_at s.now at }
 {
     if s.len() <= at {
-        return Packing::Malformed;
+        return None;
     }
-    let b = s[at];
     let next = at + 1;
-    if b <= 250 {
-        return Packing::Value(b as u64, next);
+    match s[at] {
+        252 => long(s, next, 2),
+        253 => long(s, next, 3),
+        254 => long(s, next, 8),
+        251 | 255 => None,
+        b => Some(PackedNumber {
+            value: b as u64,
+            end: next,
+        }),
     }
-    if b == 252 {
-        return long(s, next, 2);
-    }
-    if b == 253 {
-        return long(s, next, 3);
-    }
-    if b == 254 {
-        return long(s, next, 8);
-    }
-    Packing::Malformed
 }
 
 // A byte as a number.
