@@ -23,7 +23,8 @@ def sources(commit):
     if commit is None:
         for pattern in ("crates/*/src/**/*.rt", "crates/*/proofs/**/*.antt"):
             for path in sorted(glob.glob(os.path.join(ROOT, pattern), recursive=True)):
-                yield os.path.relpath(path, ROOT), open(path, encoding="utf-8").read()
+                with open(path, encoding="utf-8") as file:
+                    yield os.path.relpath(path, ROOT), file.read()
         return
     git = ["git", "-C", ROOT]
     names = subprocess.run(git + ["ls-tree", "-r", "--name-only", commit, "crates/"], capture_output=True, text=True, check=True).stdout.split("\n")
