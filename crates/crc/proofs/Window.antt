@@ -10,7 +10,10 @@ use lib.Bits.{bit_xor, xor_zero_r, xor_shifted, xor_lt}
 use lib.Dec.{lit<, lit≤}
 use lib.ListN.{length, get_or, take, drop, set, replicate, length-replicate, length-set, length-append, length-drop, drop_of_length-le}
 use lib.Pow.{pow_pos, pow-add, pow_mono, high, low}
-use lib.Seq.{drop-cons, drop-drop, drop-set-lt, get_or-drop, take-add, take_all, take-suc-set, drop-set-add, length-take-le, take-append_seam, drop-append_seam}
+use lib.Seq.{paste, drop-cons, drop-drop, drop-set-lt, get_or-drop, take-add, take_all, take-suc-set, drop-set-add, length-take-le, take-append_seam, drop-append_seam}
+use Rattle.std.proofs.lemmas.List.{drop_at, drop-take, drop-append-le, drop_all, append-nil}
+use Rattle.std.proofs.lemmas.List.Edits.{take-paste}
+use borrow.Rule.Slice.PartMut.{put_mid}
 use Rattle.format.specs.Bytes.{num, field_at}
 use Rattle.wire.proofs.Laws.{Bytes, bytes_take, field_below, field_more}
 use Rattle.format.specs.Crc.{bit_step, bit_steps, crc_from}
@@ -172,34 +175,38 @@ fold_turn s w i q i' q' x hs hw hi hq eᵢ eₚ e =
 
 -- ---- the last bytes of the window, moved to its front
 
-byte_field : (w : List ℕ) (p : ℕ) → p < length w → field_at w p 1 ≡ get_or w p 0
-unfolding field_at num
-byte_field w p h = field_more w p 0 h ∙ zero-add (get_or w p 0)
-
-pub move_turn : (w₀ w : List ℕ) (a b i : ℕ) → field_at w a i ≡ field_at w₀ b i → drop b w ≡ drop b w₀ → a + i < b → b + i < length w → length w ≡ length w₀
-    → (field_at (set w (a + i) (get_or w (b + i) 0)) a (i + 1) ≡ field_at w₀ b (i + 1)) × (drop b (set w (a + i) (get_or w (b + i) 0)) ≡ drop b w₀)
-move_turn w₀ w a b i e d h hb l =
-    let x = get_or w (b + i) 0 in
-    let x' : x ≡ field_at w₀ (b + i) 1 =
-    sym (get_or-drop b w i 0) ∙ ap (λ (y : List ℕ). get_or y i 0) d ∙ get_or-drop b w₀ i 0 ∙ sym (byte_field w₀ (b + i) (omega arith)) in (
-      ap (field_at (set w (a + i) x) a) (add-one i)
-          ∙ field_put w a i x (omega arith)
-          ∙ ap₂ (λ (y z : ℕ). y * 2 ^ (8 * i) + z) x' e
-          ∙ sym (field_split w₀ b i 1 (omega arith)),
-      drop-set-lt b w (a + i) x h ∙ d,
-    )
+-- n bytes copied from b to a
+pub moved : (w : List ℕ) (a b n : ℕ) → a + n ≤ length w → b + n ≤ length w → field_at (paste w a (drop b w) n) a n ≡ field_at w b n
+unfolding field_at
+moved w a b n ha hb =
+    let v = take n (drop b w) in
+    let e : length (take a w) ≡ a = length-take-le a w (omega arith) in
+    ap num
+    (sym (drop-take a n (paste w a (drop b w) n))
+    ∙ ap (drop a) (take-paste w a (drop b w) n (omega arith) (omega (arith, length-drop b w)))
+    ∙ drop_at (take a w) v a e)
 
 -- ---- nothing after them
 
-pub clear_turn : (w : List ℕ) (q i : ℕ) → q ≤ i → i < length w → field_at (set w i 0) q (i + 1 - q) ≡ field_at w q (i - q)
-clear_turn w q i h l =
-    let k = i - q in
-    let e : i ≡ q + k = omega arith in
-    let n : i + 1 - q ≡ suc k = omega arith in
-    ap₂ (λ (j m : ℕ). field_at (set w j 0) q m) e n
-    ∙ field_put w q k 0 (omega arith)
-    ∙ ap (λ (y : ℕ). y + field_at w q k) (zero-mul (2 ^ (8 * k)))
-    ∙ zero-add (field_at w q k)
+num_none : (n : ℕ) → num (replicate n 0) ≡ 0
+unfolding num
+num_none zero = refl
+num_none (suc n) = ap (λ (y : ℕ). y * 256 + 0) (num_none n)
+
+-- zeros written after 515 bytes, to the end
+pub cleared : (w v : List ℕ) (q m k : ℕ) → q + 515 ≤ length w → length w ≤ q + 515 + m → v ≡ replicate k 0 → num (drop q (put_mid (q + 515) m w v)) ≡ field_at w q 515
+unfolding field_at
+cleared w v q m k h hm e =
+    let a = q + 515 in
+    let n : length (take a w) ≡ a = length-take-le a w h in
+    let p : put_mid a m w v ≡ take a w ++ replicate k 0 =
+    ap₂ (λ (x y : List ℕ). take a w ++ (x ++ y)) e (drop_all m (drop a w) (omega (arith, length-drop a w))) ∙ ap (λ (x : List ℕ). take a w ++ x) (append-nil (replicate k 0)) in
+    ap (λ (x : List ℕ). num (drop q x)) p
+    ∙ ap num (drop-append-le q (take a w) (replicate k 0) (omega arith))
+    ∙ num_++ (drop q (take a w)) (replicate k 0)
+    ∙ ap₂ (λ (x : ℕ) (y : List ℕ). x * 2 ^ (8 * length (drop q (take a w))) + num y) (num_none k) (drop-take q 515 w)
+    ∙ ap (λ (x : ℕ). x + num (take 515 (drop q w))) (zero-mul (2 ^ (8 * length (drop q (take a w)))))
+    ∙ zero-add (num (take 515 (drop q w)))
 
 -- ---- the bytes that are left, with what is owed to them
 

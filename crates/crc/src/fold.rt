@@ -14,28 +14,13 @@ pub fn take(w: &mut [u8; 2944], q: usize, s: &[u8], p: usize)
     ensures fact_1 { Filled 2944 w.new }
     ensures fact_2 { register s.now w.new (p + 64) (q + 64) ≡ register s.now w.old p q }
 {
-    let mut i: usize = 0;
-    while i < 64 {
+    for i in 0..64 {
         let k = q + i;
         w[k + 515] = (w[k] ^ (w[k + 171] ^ (w[k + 230] ^ w[k + 234]))) ^ s[p + i];
-        i += 1;
     }
 }
 
-// Moves the last 515 bytes of a full window to its front.
-fn shift(w: &mut [u8; 2944])
-    requires { Filled 2944 w.old }
-    ensures fact_1 { Filled 2944 w.new }
-    ensures fact_2 { field_at w.new 61 515 ≡ field_at w.old 2109 515 }
-{
-    let mut i: usize = 0;
-    while i < 515 {
-        w[61 + i] = w[2109 + i];
-        i += 1;
-    }
-}
-
-// Makes room for 64 bytes: where the last 515 are then.
+// Makes room for 64 bytes, in a full window by moving its last 515 bytes to its front: where the last 515 are then.
 pub fn room(w: &mut [u8; 2944], q: usize) -> usize
     requires fact_1 { Filled 2944 w.old }
     requires fact_2 { q ≤ 2109 }
@@ -48,7 +33,7 @@ pub fn room(w: &mut [u8; 2944], q: usize) -> usize
     if q < 2109 {
         return q;
     }
-    shift(w);
+    w.copy_within(2109..2624, 61);
     61
 }
 
@@ -59,11 +44,7 @@ pub fn clear(w: &mut [u8; 2944], q: usize)
     ensures fact_1 { Filled 2944 w.new }
     ensures fact_2 { num (drop q w.new) ≡ field_at w.old q 515 }
 {
-    let mut i: usize = q + 515;
-    while i < 2944 {
-        w[i] = 0;
-        i += 1;
-    }
+    w[q + 515..].fill(0);
 }
 
 // The bytes from p, with all that falls on them, where nothing is in the window after the 515 bytes from q.
@@ -75,11 +56,8 @@ pub fn pay(r: &mut [u8; 579], w: &[u8; 2944], q: usize, s: &[u8], p: usize)
     ensures fact_1 { Filled 579 r.new }
     ensures fact_2 { field_at r.new 0 (length s.now - p) ≡ bit_xor (mix folds (num (drop q w.now))) (num (drop p s.now)) }
 {
-    let n = s.len() - p;
-    let mut i: usize = 0;
-    while i < n {
+    for i in 0..s.len() - p {
         let k = q + i;
         r[i] = (w[k] ^ (w[k + 171] ^ (w[k + 230] ^ w[k + 234]))) ^ s[p + i];
-        i += 1;
     }
 }

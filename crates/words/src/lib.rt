@@ -43,6 +43,7 @@ fn carry_far(f: Five, w: u64) -> Five
     }
 }
 
+// kept: no twin of `carry_far`: another multiple of the polynomial, with other words that it falls on.
 // Carries the first of two words into the other and into w, the word after them.
 fn carry_near(t: Two, w: u64) -> Two
     ensures { (M R : ℕ) → 127 ≤ M → bit_steps M (two result R) ≡ bit_steps (64 + M) (two t (on w R)) }
@@ -147,10 +148,8 @@ fn few(s: &[u8], at: usize, first: u64, second: u64) -> u64
         b: second,
         c: 0,
     };
-    let mut i = at;
-    while i < s.len() {
-        t = carry_near(t, word(s, i));
-        i += 8;
+    for k in 0..(s.len() - at) / 8 {
+        t = carry_near(t, word(s, at + 8 * k));
     }
     last_two(t.a, t.b, t.c)
 }
@@ -168,10 +167,9 @@ fn many(s: &[u8], at: usize, first: u64, second: u64) -> u64
         d: word(s, at + 8),
         e: word(s, at + 16),
     };
-    let mut i = at + 24;
-    while i < s.len() {
-        f = carry_far(f, word(s, i));
-        i += 8;
+    let from = at + 24;
+    for k in 0..(s.len() - from) / 8 {
+        f = carry_far(f, word(s, from + 8 * k));
     }
     last_five(f)
 }

@@ -8,28 +8,22 @@ use lib.Dec.{lit≤}
 use lib.Bits.{xor_zero_r}
 use native.Mathlib.Omega.{arith}
 use Prim.Native.Nat.{ℕ, ◌+◌, ◌-◌, ◌*◌}
-use mathlib.Core.Path.{refl, ap, ◌∙◌}
+use mathlib.Core.Path.{◌≡◌, refl, ap, ap₂, ◌∙◌}
 use borrow.Author.Rules.{rules}
 use Rattle.words.proofs.few.Goals as goal
 
-pub loop-i-init : goal.loop-i-init
-loop-i-init c = let a = c.args in
-    let s = a.s.now in (
-      search rules,
-      search rules,
-      ap (λ (y : ℕ). bit_steps (128 + 8 * (length s - a.at)) (on a.first (on a.second y))) (xor_zero_r (num (drop a.at s))),
-    )
+pub loop-k-init : goal.loop-k-init
+loop-k-init c = let a = c.args in
+    let s = a.s.now in
+    let e : a.at + 8 * 0 ≡ a.at = omega arith in
+    ap₂ (λ (i y : ℕ). bit_steps (128 + 8 * (length s - i)) (on a.first (on a.second y))) e (xor_zero_r (num (drop (a.at + 8 * 0) s)) ∙ ap (λ (i : ℕ). num (drop i s)) e)
 
-pub loop-i-preserved : goal.loop-i-preserved
-loop-i-preserved c = let l = c.loop-i in (
-  search rules,
-  search rules,
-  turn _ l.i _ c.word.result 128 127 (two l.t) (two c.carry_near-t.result) c.word.ensures (omega arith) refl (lit≤ tt)
-      c.carry_near-t.ensures
-      ∙ l.invariant.2,
-)
+pub loop-k-preserved : goal.loop-k-preserved
+loop-k-preserved c = let l = c.loop-k in
+    turn _ (c.args.at + 8 * l.k) _ c.word.result 128 127 (two l.t) (two c.carry_near-t.result) c.word.ensures (omega arith) (omega arith) (lit≤ tt)
+    c.carry_near-t.ensures
+    ∙ l.invariant
 
 pub returns : goal.returns
-returns c = let s = c.args.s.now in
-    let l = c.loop-i in
-    c.last_two.ensures ∙ over s l.i 128 (two l.t) (omega arith) ∙ l.invariant.2
+returns c = let l = c.loop-k in
+    c.last_two.ensures ∙ over c.args.s.now (c.args.at + 8 * l.k) 128 (two l.t) (omega arith) ∙ l.invariant

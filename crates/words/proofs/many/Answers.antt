@@ -1,36 +1,32 @@
-use Rattle.words.proofs.Ends.{turn, over, three, three_less}
+use Rattle.words.proofs.Ends.{turn, over, three}
 use Rattle.words.specs.Front.{five}
 use Rattle.words.specs.Words.{on}
 use Rattle.format.specs.Crc.{bit_steps}
-use lib.ListN.{length}
+use Rattle.format.specs.Bytes.{num}
+use lib.ListN.{length, drop}
 use lib.Dec.{lit≤}
 use native.Mathlib.Omega.{arith}
 use Prim.Native.Nat.{ℕ, ◌+◌, ◌-◌, ◌*◌}
-use mathlib.Core.Path.{◌≡◌, refl, sym, ap₂, ◌∙◌}
+use mathlib.Core.Path.{◌≡◌, refl, sym, ap₂, ap, ◌∙◌}
 use borrow.Author.Rules.{rules}
 use Rattle.words.proofs.many.Goals as goal
 
-pub loop-i-init : goal.loop-i-init
-loop-i-init c = let a = c.args in
+pub loop-k-init : goal.loop-k-init
+loop-k-init c = let a = c.args in
     let s = a.s.now in
+    let h = c.requires in
+    let e : (a.at + 24) + 8 * 0 ≡ a.at + 24 = omega arith in
     let n : 320 + 8 * (length s - (a.at + 24)) ≡ 128 + 8 * (length s - a.at) = omega arith in
-    let h = c.requires in (
-      search rules,
-      three_less (length s) a.at h.fact_1 h.fact_2,
-      ap₂ (λ (m y : ℕ). bit_steps m (on a.first (on a.second y))) n
-          (sym (three s a.at _ _ _ (search rules) c.word.ensures c.word-2.ensures c.word-3.ensures)),
-    )
+    ap (λ (i : ℕ). bit_steps (320 + 8 * (length s - i)) (on a.first (on a.second (on c.word.result (on c.word-2.result (on c.word-3.result (num (drop i s)))))))) e
+    ∙ ap₂ (λ (m y : ℕ). bit_steps m (on a.first (on a.second y))) n
+    (sym (three s a.at _ _ _ h.fact_1 c.word.ensures c.word-2.ensures c.word-3.ensures))
 
-pub loop-i-preserved : goal.loop-i-preserved
-loop-i-preserved c = let l = c.loop-i in (
-  search rules,
-  search rules,
-  turn _ l.i _ c.word-in-loop-i.result 320 268 (five l.f) (five c.carry_far-f.result) c.word-in-loop-i.ensures (omega arith) refl (lit≤ tt)
-      c.carry_far-f.ensures
-      ∙ l.invariant.2,
-)
+pub loop-k-preserved : goal.loop-k-preserved
+loop-k-preserved c = let l = c.loop-k in
+    turn _ (c.args.at + 24 + 8 * l.k) _ c.word-in-loop-k.result 320 268 (five l.f) (five c.carry_far-f.result) c.word-in-loop-k.ensures (omega arith)
+    (omega arith) (lit≤ tt) c.carry_far-f.ensures
+    ∙ l.invariant
 
 pub returns : goal.returns
-returns c = let s = c.args.s.now in
-    let l = c.loop-i in
-    c.last_five.ensures ∙ over s l.i 320 (five l.f) (omega arith) ∙ l.invariant.2
+returns c = let l = c.loop-k in
+    c.last_five.ensures ∙ over c.args.s.now (c.args.at + 24 + 8 * l.k) 320 (five l.f) (omega arith) ∙ l.invariant

@@ -6,7 +6,4 @@ use Rattle.crc.proofs.Window.{Left}
 use Rattle.crc.proofs.fold.pay.Given as goal
 
 abbrev pub invariant-loop-i : goal.invariant-loop-i
-invariant-loop-i l = (l.i ≤ l.n) × Filled 579 l.r × (Left l.s l.w (l.p + l.i) (l.q + l.i) * 2 ^ (8 * l.i) + field_at l.r 0 l.i ≡ Left l.s l.w l.p l.q)
-
-abbrev pub decreases-loop-i : goal.decreases-loop-i
-decreases-loop-i l = l.n - l.i
+invariant-loop-i l = Filled 579 l.r × (Left l.s l.w (l.p + l.i) (l.q + l.i) * 2 ^ (8 * l.i) + field_at l.r 0 l.i ≡ Left l.s l.w l.p l.q)

@@ -1,11 +1,11 @@
-use mathlib.Core.Path.{◌≡◌, sym, ap, ◌∙◌}
-use Prim.Native.Nat.{ℕ}
-use native.Mathlib.Omega.{arith}
+use Rattle.std.proofs.Common.{◌≡◌, ℕ, List, arith, sym, ap, ◌∙◌, drop}
 use Rattle.format.specs.Bytes.{field_at}
-use borrow.Author.Rules.{rules}
+use Rattle.crc.proofs.Window.{moved}
 use Rattle.crc.proofs.fold.room.Goals as goal
 
-pub returns : goal.returns
-returns c = let a = c.args in
-    let e : a.q ≡ 2109 = omega arith in
-    record { fact_1 = c.shift.ensures.fact_1; fact_2 = search rules; fact_3 = search rules; fact_4 = c.shift.ensures.fact_2 ∙ ap (λ (k : ℕ). field_at a.w.now k 515) (sym e) }
+pub returns-clause-fact_4 : goal.returns-clause-fact_4
+returns-clause-fact_4 c = let w = c.args.w.now in
+    let e : c.args.q ≡ 2109 = omega arith in
+    ap (λ (x : List ℕ). field_at x 61 515) c.copy_within.ensures.after
+    ∙ moved w 61 2109 515 (omega arith) (omega arith)
+    ∙ ap (λ (k : ℕ). field_at w k 515) (sym e)

@@ -4,7 +4,4 @@ use Rattle.crc.specs.Window.{register, Filled}
 use Rattle.crc.proofs.fold.take.Given as goal
 
 abbrev pub invariant-loop-i : goal.invariant-loop-i
-invariant-loop-i l = (l.i ≤ 64) × Filled 2944 l.w × (register l.s l.w (l.p + l.i) (l.q + l.i) ≡ register l.s l.initial.w l.p l.q)
-
-abbrev pub decreases-loop-i : goal.decreases-loop-i
-decreases-loop-i l = 64 - l.i
+invariant-loop-i l = Filled 2944 l.w × (register l.s l.w (l.p + l.i) (l.q + l.i) ≡ register l.s l.initial.w l.p l.q)
