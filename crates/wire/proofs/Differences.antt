@@ -1,17 +1,16 @@
 -- Laws of bit fields and of signed differences.
-use mathlib.Core.Path.{◌≡◌, refl, ap, ap₂, ◌∙◌, subst}
+use mathlib.Core.Path.{◌≡◌, refl, ap, ◌∙◌}
 use mathlib.Core.Bool.{Bool, true, false, cond}
 use Prim.Native.Nat.{ℕ, zero, suc, ◌-◌, ◌*◌, ◌%◌, ◌^◌, ◌<◌}
-use native.Mathlib.Nat.{mod-eq_of_lt, one-mul, zero-add}
+use native.Mathlib.Nat.{mod-eq_of_lt, one-mul}
 use native.Mathlib.Omega.{arith}
-use borrow.Author.Tests.{ltb-true}
-use lib.Dec.{T, ltb}
+use lib.Dec.{ltb}
 use lib.IntN.{ℤ, pos, negsuc, ◌-ℤ◌, nat_abs}
 use lib.Pow.{pow-lt}
-use lib.Signed.{mag, non_neg, lt_z}
+use lib.Signed.{mag}
 use mir.Syntax.{w64}
-use mir.Val.{SFits, to_z, of_z}
-use mir.ValLaws.{to_z_pos, to_z-of_z}
+use mir.Val.{to_z, of_z}
+use mir.ValLaws.{to_z-of_z}
 
 -- 1 shifted by n
 pub shifted_one : (n : ℕ) → n < 64 → (1 * 2 ^ n) % 2 ^ 64 ≡ 2 ^ n
@@ -25,14 +24,6 @@ sub_mag a (suc b) ha hb = go (ltb a (suc b)) refl
     go : (t : Bool) → ltb a (suc b) ≡ t → mag (cond t (negsuc (suc b - suc a)) (pos (a - suc b))) < 2 ^ 63
     go true e = omega arith
     go false e = omega arith
-
-pub sub_fits : (a b : ℕ) → a < 2 ^ 62 → b < 2 ^ 62 → SFits w64 (to_z w64 a -ℤ to_z w64 b)
-sub_fits a b ha hb = rw (to_z_pos w64 a (omega arith), to_z_pos w64 b (omega arith)) (record { sfits = sub_mag a b ha hb })
-
-pub sub_is : (a b : ℕ) → a < 2 ^ 62 → b < 2 ^ 62 → to_z w64 (of_z w64 (to_z w64 a -ℤ to_z w64 b)) ≡ pos a -ℤ pos b
-sub_is a b ha hb =
-    to_z-of_z w64 (to_z w64 a -ℤ to_z w64 b) (sub_fits a b ha hb)
-    ∙ ap₂ ◌-ℤ◌ (to_z_pos w64 a (omega arith)) (to_z_pos w64 b (omega arith))
 
 sub_abs : (a b : ℕ) → a < 2 ^ 62 → b < 2 ^ 62 → nat_abs (pos a -ℤ pos b) < 2 ^ 63
 sub_abs a zero ha hb = omega arith
@@ -48,12 +39,3 @@ held a b ha hb d e = rw e (to_z-of_z w64 (pos a -ℤ pos b) (record { sfits = su
 
 pub held_abs : (a b : ℕ) → a < 2 ^ 62 → b < 2 ^ 62 → (d : ℤ) → d ≡ pos a -ℤ pos b → nat_abs (to_z w64 (of_z w64 d)) < 2 ^ 63
 held_abs a b ha hb d e = rw (held a b ha hb d e) (sub_abs a b ha hb)
-
--- 0 less a number below 0
-pub neg_is : (d : ℤ) → lt_z d (pos 0) ≡ true → pos 0 -ℤ d ≡ pos (nat_abs d)
-neg_is (pos n) e = absurd (let h : n < 0 = ltb-true n 0 e in omega arith)
-neg_is (negsuc n) e = ap pos (zero-add (suc n))
-
-pub not_neg : (d : ℤ) → lt_z d (pos 0) ≡ false → T (non_neg d)
-not_neg (pos n) e = tt
-not_neg (negsuc n) e = subst (λ (b : Bool). T b) e tt

@@ -17,6 +17,7 @@ use lib.Dec.{lit<}
 use lib.ListN.{length, get_or, take, drop, length-take, length-drop}
 use lib.Pow.{pow-add, pow_mono, pow_pos, high, low}
 use lib.Seq.{drop-cons, take-suc, get_or-drop}
+use Rattle.std.proofs.lemmas.List.{get_or-take}
 use Rattle.format.specs.Bytes.{num, big_from, num_big, field_at, big_at}
 use Rattle.format.specs.Values.{signed}
 
@@ -66,6 +67,11 @@ big_turn s at i h =
     let h' : i < length (drop at s) = omega (arith, length-drop at s) in
     rw (add-one, take-suc (drop at s) i 0 h', big_from_append, get_or-drop)
 
+-- the loop over the bytes of a part
+pub big_start : (s : List ℕ) (at : ℕ) → 0 ≡ big_at s at 0
+unfolding big_at num_big big_from
+big_start s at = refl
+
 big_below_from : (acc j : ℕ) (bs : List ℕ) → Bytes bs → acc < 2 ^ (8 * j) → big_from acc bs < 2 ^ (8 * (j + length bs))
 unfolding big_from
 big_below_from acc j [] h e = rw add-zero e
@@ -77,6 +83,31 @@ unfolding big_at num_big
 big_below_at s p k m h e =
     lt_of_lt_of_le (big_below_from 0 0 (take k (drop p s)) (bytes_take k (drop p s) (bytes_drop p s h)) (lit< tt))
     (pow_mono (omega (arith, length-take k (drop p s))))
+
+module _ (s : List ℕ) (at n i v : ℕ) (h : at + n ≤ length s) (e : v ≡ big_at s at i) where
+  -- the place of a byte in a part, and the byte there
+  within : i < length (take (at + n - at) (drop at s)) → (i < n) × (get_or (take (at + n - at) (drop at s)) i 0 ≡ get_or s (at + i) 0)
+  within l =
+      let z : i < at + n - at = omega (arith, length-take (at + n - at) (drop at s)) in
+      (omega arith, get_or-take (at + n - at) (drop at s) i 0 z ∙ get_or-drop at s i 0)
+
+  pub big_more : i < length (take (at + n - at) (drop at s)) → v * 256 + get_or (take (at + n - at) (drop at s)) i 0 ≡ big_at s at (i + 1)
+  big_more l =
+      let w = within l in
+      let t = big_turn s at i (omega (arith, w.0)) in
+      omega (arith, w.1, t, e)
+
+  pub big_room : Bytes s → n ≤ 8 → i < length (take (at + n - at) (drop at s)) → (v < 2 ^ 56) × (get_or (take (at + n - at) (drop at s)) i 0 < 256)
+  big_room b m l =
+      let w = within l in
+      let c = big_below_at s at i 7 b (omega (arith, w.0)) in
+      let g = (b (at + i)).fits in
+      (omega (arith, e, c), omega (arith, w.1, g))
+
+  pub big_end : n ≤ 8 → i ≤ length (take (at + n - at) (drop at s)) → length (take (at + n - at) (drop at s)) ≤ i → v ≡ big_at s at n
+  big_end m u l =
+      let z : i ≡ n = omega (arith, length-take (at + n - at) (drop at s), length-drop at s) in
+      e ∙ ap (big_at s at) z
 
 -- ---- numbers side by side
 
@@ -114,44 +145,6 @@ big_part s p j k l b h =
     let z : p + (j + k) ≤ length s = omega arith in
     rw (big_split s p (j + k) l h, high (big_at s p (j + k)) (8 * l) (big_below_at s (p + (j + k)) l l b (omega arith)), big_split s p j k z)
     (low (big_at s p j) (8 * k) (big_below_at s (p + j) k k b (omega arith)))
-
--- ---- eight bytes in the opposite order
-
--- after i of them
-pub record Turning (x v y i : ℕ) : Type 0 where
-  pub few : i ≤ 8
-  pub below : v < 2 ^ (8 * i)
-  pub is : (s : List ℕ) (at : ℕ) → ((j : ℕ) → get_or s j 0 < 256) → at + 8 ≤ length s → x ≡ field_at s at 8 → (y ≡ field_at s (at + i) (8 - i)) × (v ≡ big_at s at i)
-
-pub turning_start : (x : ℕ) → Turning x 0 x 0
-unfolding big_at num_big big_from
-turning_start x = record { few = omega arith; below = lit< tt; is = λ s at b h e. (rw add-zero e, refl) }
-
-module _ {x v y i : ℕ} (t : Turning x v y i) where
-  pub turning-room : i < 8 → v < 2 ^ 56
-  turning-room h = lt_of_lt_of_le t.below (pow_mono {j = 56} (omega arith))
-
-  pub turning-more : i < 8 → Turning x (v * 256 + y % 256) (y / 256) (i + 1)
-  turning-more h = record {
-    few = omega arith;
-    below = rw (add-one i, eight i) (digits_lt t.below (omega arith));
-    is = λ s at b l e. on s at b l (t.is s at b l e);
-  }
-    where
-      on : (s : List ℕ) (at : ℕ) → ((j : ℕ) → get_or s j 0 < 256) → at + 8 ≤ length s → (y ≡ field_at s (at + i) (8 - i)) × (v ≡ big_at s at i)
-          → (y / 256 ≡ field_at s (at + (i + 1)) (8 - (i + 1))) × (v * 256 + y % 256 ≡ big_at s at (i + 1))
-      on s at b l e =
-          let k : 8 - i ≡ suc (8 - (i + 1)) = omega arith in
-          let q : suc (at + i) ≡ at + (i + 1) = omega arith in
-          let f : field_at s (at + i) (8 - i) ≡ field_at s (at + (i + 1)) (8 - (i + 1)) * 256 + get_or s (at + i) 0 = ap (field_at s (at + i)) k ∙ field_more s (at + i) (8 - (i + 1)) (omega arith) ∙ ap (λ (p : ℕ). field_at s p (8 - (i + 1)) * 256 + get_or s (at + i) 0) q in
-          let g : get_or s (at + i) 0 < 256 = b (at + i) in
-          let d = big_turn s at i (omega arith) in
-          let y' : y ≡ field_at s (at + i) (8 - i) = e.0 in
-          let v' : v ≡ big_at s at i = e.1 in
-          (omega arith, omega arith)
-
-  pub turning-end : 8 ≤ i → (s : List ℕ) (at : ℕ) → ((j : ℕ) → get_or s j 0 < 256) → at + 8 ≤ length s → x ≡ field_at s at 8 → v ≡ big_at s at 8
-  turning-end h s at b l e = let z : i ≡ 8 = let f = t.few in omega arith in (t.is s at b l e).1 ∙ ap (big_at s at) z
 
 -- ---- two's complement
 

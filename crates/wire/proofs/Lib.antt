@@ -5,3 +5,4 @@ pub mod PackedIs
 pub mod Differences
 pub mod Below
 pub mod Same
+pub mod Swapped

@@ -93,9 +93,6 @@ module _ (s : List ℕ) (a b i : ℕ) (e : take i (drop a s) ≡ take i (drop b 
   up_to : (n : ℕ) → n ≤ i → take n (drop a s) ≡ take n (drop b s)
   up_to n h = sym (take-take n i (drop a s) h) ∙ ap (take n) e ∙ take-take n i (drop b s) h
 
-  pub s-all : (n : ℕ) → n ≤ i → SameIs s a b n true
-  s-all n h = (λ t. up_to n h, λ t. absurd (clash (sym t)))
-
 module _ (s : List ℕ) (a b n : ℕ) (ha : a + n ≤ length s) (hb : b + n ≤ length s) where
   -- the k bytes after the first i make x and y
   module _ (i k x y : ℕ) (xi : x ≡ field_at s (a + i) k) (yi : y ≡ field_at s (b + i) k) (h : i + k ≤ n) where

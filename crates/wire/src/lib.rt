@@ -20,30 +20,17 @@ pub fn number(s: &[u8], at: usize, k: usize) -> u64
     ensures { result ≡ field_at s.now at k }
 {
     let mut v: u64 = 0;
-    let mut i = k;
-    while 0 < i {
-        i -= 1;
+    for i in (0..k).rev() {
         v = v * 256 + s[at + i] as u64;
     }
     v
-}
-
-// Two bytes.
-fn two(a: u8, b: u8) -> u64
-    ensures { (result ≡ b * 256 + a) × (result < 65536) }
-{
-    (b as u64) * 256 + (a as u64)
 }
 
 // Eight bytes as a number, the first the lowest, in a form that a compiler reads at once.
 pub fn eight(a: u8, b: u8, c: u8, d: u8, e: u8, f: u8, g: u8, h: u8) -> u64
     ensures { result ≡ ((((((h * 256 + g) * 256 + f) * 256 + e) * 256 + d) * 256 + c) * 256 + b) * 256 + a }
 {
-    let i = two(a, b);
-    let j = two(c, d);
-    let k = two(e, f);
-    let l = two(g, h);
-    (l * 65536 + k) * 4294967296 + (j * 65536 + i)
+    u64::from_le_bytes([a, b, c, d, e, f, g, h])
 }
 
 // The eight bytes from at.
@@ -51,7 +38,7 @@ pub fn word(s: &[u8], at: usize) -> u64
     requires { at + 8 ≤ length s.now }
     ensures { result ≡ field_at s.now at 8 }
 {
-    eight(
+    u64::from_le_bytes([
         s[at],
         s[at + 1],
         s[at + 2],
@@ -60,22 +47,14 @@ pub fn word(s: &[u8], at: usize) -> u64
         s[at + 5],
         s[at + 6],
         s[at + 7],
-    )
+    ])
 }
 
 // The number of the same eight bytes in the opposite order.
 pub fn turned(x: u64) -> u64
     ensures { TurnedIs x result }
 {
-    let mut v: u64 = 0;
-    let mut y = x;
-    let mut i: usize = 0;
-    while i < 8 {
-        v = v * 256 + y % 256;
-        y = y / 256;
-        i += 1;
-    }
-    v
+    x.swap_bytes()
 }
 
 // The n bytes at one place are those at another: one by one.
@@ -83,14 +62,7 @@ fn same_few(s: &[u8], a: usize, b: usize, n: usize) -> bool
     requires { (a + n ≤ length s.now) × (b + n ≤ length s.now) }
     ensures { SameIs s.now a b n result }
 {
-    let mut i: usize = 0;
-    while i < n {
-        if s[a + i] != s[b + i] {
-            return false;
-        }
-        i += 1;
-    }
-    true
+    s[a..a + n] == s[b..b + n]
 }
 
 // The same, eight at a time. The last eight are compared at once, some of them again.
@@ -102,12 +74,10 @@ pub fn same_bytes(s: &[u8], a: usize, b: usize, n: usize) -> bool
         return same_few(s, a, b, n);
     }
     let last = n - 8;
-    let mut i: usize = 0;
-    while i < last {
+    for i in (0..last).step_by(8) {
         if word(s, a + i) != word(s, b + i) {
             return false;
         }
-        i += 8;
     }
     word(s, a + last) == word(s, b + last)
 }
@@ -119,11 +89,8 @@ pub fn big(s: &[u8], at: usize, n: usize) -> u64
     ensures { result ≡ big_at s.now at n }
 {
     let mut v: u64 = 0;
-    let mut i: usize = 0;
-    while i < n {
-        let b = s[at + i] as u64;
-        v = v * 256 + b;
-        i += 1;
+    for b in &s[at..at + n] {
+        v = v * 256 + *b as u64;
     }
     v
 }
@@ -145,6 +112,7 @@ pub fn two_complement(v: u64, n: u64) -> i64
 }
 
 // The k bytes that a packed number's first byte brings, at a place (01, Table maps).
+#[tactic(auto, unfolding(crate::specs::Answer::long_at))]
 fn long(s: &[u8], at: usize, k: usize) -> Option<PackedNumber>
     requires { (k ≤ 8) × (at ≤ length s.now) }
     ensures { result ≡ long_at s.now at k }
@@ -183,16 +151,17 @@ pub fn packed(s: &[u8], at: usize) -> Option<PackedNumber>
 pub fn wide(x: u8) -> u64
     ensures { result ≡ x }
 {
-    x as u64
+    u64::from(x)
 }
 
 // Bit i of a run of bytes (01, Rows events: bits run from each byte's lowest).
+#[tactic(auto, unfolding(format::specs::Columns::bit))]
 pub fn bit_at(s: &[u8], i: usize) -> bool
     requires { i / 8 < length s.now }
     ensures { result ≡ bit s.now i }
 {
     let k = i / 8;
-    let b = wide(s[k]);
+    let b = s[k] as u64;
     let shift = (i % 8) as u64;
     (b >> shift) % 2 == 1
 }
@@ -202,7 +171,7 @@ pub fn one_more(j: usize, set: bool) -> usize
     requires { j < 2 ^ 32 }
     ensures { result ≡ cond set (j + 1) j }
 {
-    if set { j + 1 } else { j }
+    j + set as usize
 }
 
 // How many of the first n bits are set (01, Rows events: spare bits are ignored).
@@ -211,11 +180,9 @@ pub fn count_bits(s: &[u8], n: usize) -> usize
     ensures { result ≡ count (bits n s.now) }
 {
     let mut k: usize = 0;
-    let mut i: usize = 0;
-    while i < n {
+    for i in 0..n {
         let set = bit_at(s, i);
         k = one_more(k, set);
-        i += 1;
     }
     k
 }
@@ -225,13 +192,10 @@ pub fn any_bit(s: &[u8], n: usize) -> bool
     requires { (n ≤ 512) × (bit_bytes n ≤ length s.now) }
     ensures { result ≡ leb 1 (count (bits n s.now)) }
 {
-    let mut i: usize = 0;
-    while i < n {
-        let set = bit_at(s, i);
-        if set {
+    for i in 0..n {
+        if bit_at(s, i) {
             return true;
         }
-        i += 1;
     }
     false
 }
@@ -257,5 +221,5 @@ pub fn size_of(d: i64) -> u64
     requires { nat_abs d < 2 ^ 63 }
     ensures { result ≡ nat_abs d }
 {
-    if d < 0 { (0 - d) as u64 } else { d as u64 }
+    d.unsigned_abs()
 }

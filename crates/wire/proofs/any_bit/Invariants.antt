@@ -1,10 +1,7 @@
 use mathlib.Core.Path.{◌≡◌}
-use Prim.Native.Nat.{◌+◌, ◌-◌, ◌≤◌}
+use Prim.Native.Nat.{◌+◌, ◌-◌}
 use Rattle.format.specs.Columns.{count, bits, bits_from}
 use Rattle.wire.proofs.any_bit.Given as goal
 
 abbrev pub invariant-loop-i : goal.invariant-loop-i
-invariant-loop-i l = (l.i ≤ l.n) × (0 + count (bits_from l.i (l.n - l.i) l.s) ≡ count (bits l.n l.s))
-
-abbrev pub decreases-loop-i : goal.decreases-loop-i
-decreases-loop-i l = l.n - l.i
+invariant-loop-i l = 0 + count (bits_from l.i (l.n - l.i) l.s) ≡ count (bits l.n l.s)

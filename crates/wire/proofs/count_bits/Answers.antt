@@ -4,13 +4,13 @@ use borrow.Author.Rules.{rules}
 use Rattle.wire.proofs.count_bits.Goals as goal
 
 pub loop-i-init : goal.loop-i-init
-loop-i-init c = (search rules, search rules, count_start _ _)
+loop-i-init c = (search rules, count_start _ _)
 
 pub bit_at-set-requires : goal.bit_at-set-requires
 bit_at-set-requires c = search (rules, bit-room)
 
 pub loop-i-preserved : goal.loop-i-preserved
-loop-i-preserved c = (search rules, search (rules, more-most), search (rules, count-more))
+loop-i-preserved c = (search (rules, more-most), search (rules, count-more))
 
 pub returns : goal.returns
 returns c = search (rules, count-end)

@@ -4,7 +4,4 @@ use mathlib.Core.Path.{◌≡◌}
 use Rattle.wire.proofs.count_bits.Given as goal
 
 abbrev pub invariant-loop-i : goal.invariant-loop-i
-invariant-loop-i l = (l.i ≤ l.n) × (l.k ≤ l.i) × (l.k + count (bits_from l.i (l.n - l.i) l.s) ≡ count (bits l.n l.s))
-
-abbrev pub decreases-loop-i : goal.decreases-loop-i
-decreases-loop-i l = l.n - l.i
+invariant-loop-i l = (l.k ≤ l.i) × (l.k + count (bits_from l.i (l.n - l.i) l.s) ≡ count (bits l.n l.s))

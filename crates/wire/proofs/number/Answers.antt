@@ -1,7 +1,7 @@
 use Prim.Native.Nat.{◌+◌, ◌-◌}
 use native.Mathlib.Omega.{arith}
 use borrow.Author.Rules.{rules}
-use Rattle.format.proofs.Fields.{digits_start, digits-room, digits_step, digits-end}
+use Rattle.format.proofs.Fields.{digits_start, digits-room, digits_step}
 use Rattle.wire.proofs.number.Goals as goal
 
 pub loop-i-init : goal.loop-i-init
@@ -10,23 +10,8 @@ loop-i-init c = digits_start c.args.s.now c.args.at c.args.k
 pub overflow_mul-v : goal.overflow_mul-v
 overflow_mul-v c = omega (arith, digits-room c.loop-i.invariant (search rules) (search rules))
 
-pub overflow_add-v : goal.overflow_add-v
-overflow_add-v c = omega (arith, c.loop-i.invariant.within)
-
-pub bounds-s-at : goal.bounds-s-at
-bounds-s-at c = omega (arith, c.loop-i.invariant.within)
-
-pub overflow_cast-v : goal.overflow_cast-v
-overflow_cast-v c = omega (arith, c.type_inv.s (c.args.at + (c.loop-i.i - 1)))
-
 pub overflow_add-v-in-loop-i : goal.overflow_add-v-in-loop-i
 overflow_add-v-in-loop-i c = omega (arith, digits-room c.loop-i.invariant (search rules) (search rules), c.type_inv.s (c.args.at + (c.loop-i.i - 1)))
 
-pub loop-i-smaller : goal.loop-i-smaller
-loop-i-smaller c = omega arith
-
 pub loop-i-preserved : goal.loop-i-preserved
 loop-i-preserved c = digits_step c.loop-i.invariant (search rules) (search rules) (omega (arith, c.type_inv.s (c.args.at + (c.loop-i.i - 1))))
-
-pub returns : goal.returns
-returns c = digits-end c.loop-i.i c.loop-i.invariant (omega arith)

@@ -1,6 +1,0 @@
-use Rattle.format.specs.Columns.{bit}
-use Rattle.wire.proofs.bit_at.Goals as goal
-
-pub returns : goal.returns
-unfolding bit
-returns c = simp c.wide-b.ensures
