@@ -13,6 +13,7 @@ use lib.Pow.{pow_pos, pow-add, pow_mono, high, low}
 use lib.Seq.{paste, drop-cons, drop-drop, drop-set-lt, get_or-drop, take-add, take_all, take-suc-set, drop-set-add, length-take-le, take-append_seam, drop-append_seam}
 use Rattle.std.proofs.lemmas.List.{drop_at, drop-take, drop-append-le, drop_all, append-nil}
 use Rattle.std.proofs.lemmas.List.Edits.{take-paste}
+use Rattle.std.specs.Int.{w32, to_le_bytes}
 use borrow.Rule.Slice.PartMut.{put_mid}
 use Rattle.format.specs.Bytes.{num, field_at}
 use Rattle.wire.proofs.Laws.{Bytes, bytes_take, field_below, field_more}
@@ -296,7 +297,10 @@ fold_start c s w q hs hc e =
 
 -- the window at the start
 abbrev pub first : ℕ → List ℕ
-first c = set (set (set (set (replicate 2944 0) 61 (c % 256)) 62 (c / 256 % 256)) 63 (c / 65536 % 256)) 64 (c / 16777216)
+first c = set (set (set (set (replicate 2944 0) 61 (c % 256)) 62 (c / 256 % 256)) 63 (c / 65536 % 256)) 64 (c / 16777216 % 256)
+
+pub started : (c : ℕ) {v : List ℕ} → v ≡ to_le_bytes w32 c → put_mid 61 4 (replicate 2944 0) v ≡ first c
+started c e = ap (put_mid 61 4 (replicate 2944 0)) e
 
 pub begun : (c : ℕ) → c < 2 ^ 32 → field_at (first c) 61 515 ≡ c
 unfolding field_at num
@@ -304,7 +308,7 @@ begun c h = omega arith
 
 pub first-filled : (c : ℕ) → c < 2 ^ 32 → Filled 2944 (first c)
 first-filled c h =
-    filled-set _ 64 (c / 16777216)
+    filled-set _ 64 (c / 16777216 % 256)
     (filled-set _ 63 (c / 65536 % 256)
     (filled-set _ 62 (c / 256 % 256) (filled-set _ 61 (c % 256) (filled_none 2944) (omega arith)) (omega arith)) (omega arith))
     (omega arith)

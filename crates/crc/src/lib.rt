@@ -15,23 +15,19 @@ fn folded(c: u64, s: &[u8]) -> u64
     ensures { result ≡ crc_from c s.now }
 {
     let mut w = [0u8; 2944];
-    w[61] = (c % 256) as u8;
-    w[62] = (c / 256 % 256) as u8;
-    w[63] = (c / 65536 % 256) as u8;
-    w[64] = (c / 16777216) as u8;
+    w[61..65].copy_from_slice(&(c as u32).to_le_bytes());
     let mut q: usize = 61;
-    let mut p: usize = 0;
-    while 579 <= s.len() - p {
+    let turns = (s.len() - 515) / 64;
+    for k in 0..turns {
         q = room(&mut w, q);
-        take(&mut w, q, s, p);
+        take(&mut w, q, s, 64 * k);
         q += 64;
-        p += 64;
     }
     clear(&mut w, q);
+    let p = 64 * turns;
     let mut r = [0u8; 579];
     pay(&mut r, &w, q, s, p);
-    let n = s.len() - p;
-    words::after(0, &r[..n])
+    words::after(0, &r[..s.len() - p])
 }
 
 // The register c after the bytes: a log's parts are fed one after the other. (A slice that is taken anew, `&s[..]`, is handed on as two numbers; as

@@ -22,6 +22,7 @@ struct Five {
 }
 
 // The first two words, with all that fell on them, and what fell on the one after them.
+// kept: no plainer as one type with `Five`: `carry_far` and `carry_near` share no line, since their multiples have other terms.
 #[derive(Clone, Copy)]
 struct Two {
     a: u64,
@@ -43,7 +44,6 @@ fn carry_far(f: Five, w: u64) -> Five
     }
 }
 
-// kept: no twin of `carry_far`: another multiple of the polynomial, with other words that it falls on.
 // Carries the first of two words into the other and into w, the word after them.
 fn carry_near(t: Two, w: u64) -> Two
     ensures { (M R : ℕ) → 127 ≤ M → bit_steps M (two result R) ≡ bit_steps (64 + M) (two t (on w R)) }
@@ -78,6 +78,7 @@ fn next_high(x: u64) -> u64
 }
 
 // A word times the inverse of the polynomial, in two factors.
+// kept: no plainer as one function: each factor is a formula of its own, and only the form of the contract is shared.
 fn inverse_one(x: u64) -> u64
     ensures { result ≡ bit_xor x (mix inverse₁ (x * 2 ^ 64) % 2 ^ 64) }
 {
@@ -155,6 +156,7 @@ fn few(s: &[u8], at: usize, first: u64, second: u64) -> u64
 }
 
 // The same for three words or more.
+// kept: no plainer as one function with `few`: only the loop's head is shared, and a trait would name the words, the carry and the end of each.
 fn many(s: &[u8], at: usize, first: u64, second: u64) -> u64
     requires fact_1 { at + 24 ≤ length s.now }
     requires fact_2 { (length s.now - at) % 8 ≡ 0 }
