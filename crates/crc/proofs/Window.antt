@@ -10,7 +10,7 @@ use lib.Bits.{bit_xor, xor_zero_r, xor_shifted, xor_lt}
 use lib.Dec.{lit<, lit≤}
 use lib.ListN.{length, get_or, take, drop, set, replicate, length-replicate, length-set, length-append, length-drop, drop_of_length-le}
 use lib.Pow.{pow_pos, pow-add, pow_mono, high, low}
-use lib.Seq.{paste, drop-cons, drop-drop, drop-set-lt, get_or-drop, take-add, take_all, take-suc-set, drop-set-add, length-take-le, take-append_seam, drop-append_seam}
+use lib.Seq.{paste, drop-cons, drop-drop, take-add, take_all, take-suc-set, drop-set-add, length-take-le, take-append_seam, drop-append_seam}
 use Rattle.std.proofs.lemmas.List.{drop_at, drop-take, drop-append-le, drop_all, append-nil}
 use Rattle.std.proofs.lemmas.List.Edits.{take-paste}
 use Rattle.std.specs.Int.{w32, to_le_bytes}

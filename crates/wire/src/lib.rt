@@ -74,8 +74,8 @@ pub fn same_bytes(s: &[u8], a: usize, b: usize, n: usize) -> bool
         return same_few(s, a, b, n);
     }
     let last = n - 8;
-    for i in (0..last).step_by(8) {
-        if word(s, a + i) != word(s, b + i) {
+    for i in 0..last.div_ceil(8) {
+        if word(s, a + 8 * i) != word(s, b + 8 * i) {
             return false;
         }
     }
@@ -89,8 +89,9 @@ pub fn big(s: &[u8], at: usize, n: usize) -> u64
     ensures { result ≡ big_at s.now at n }
 {
     let mut v: u64 = 0;
-    for b in &s[at..at + n] {
-        v = v * 256 + *b as u64;
+    for i in 0..n {
+        let b = s[at + i] as u64;
+        v = v * 256 + b;
     }
     v
 }

@@ -1,12 +1,10 @@
 use mathlib.Core.Path.{◌≡◌, refl, sym, subst, ap, ◌∙◌}
 use mathlib.Core.List.{List}
-use Prim.Native.Nat.{ℕ, ◌+◌, ◌-◌, ◌*◌, ◌/◌, ◌^◌, ◌<◌}
+use Prim.Native.Nat.{ℕ, ◌-◌, ◌*◌, ◌/◌, ◌^◌, ◌<◌}
 use native.Mathlib.Omega.{arith}
 use lib.Bits.{bit_xor}
 use lib.ListN.{length, drop}
-use lib.Seq.{length-take-le}
 use Rattle.format.specs.Bytes.{num}
-use Rattle.format.specs.Crc.{bit_steps}
 use Rattle.words.specs.Words.{mix}
 use Rattle.crc.specs.Window.{folds, register, Filled}
 use Rattle.crc.proofs.Window.{bytes_of, filled_none, small, fold_start, first, begun, started, first-filled, fold_end}
@@ -19,23 +17,12 @@ loop-k-init c = let a = c.args in
     let e = started a.c (c.copy_from_slice.ensures.after ∙ c.to_le_bytes.ensures) in
     (search rules, refl, subst (Filled 2944) (sym e) (first-filled a.c h), ap (λ (w : List ℕ). register a.s.now w 0 61) e ∙ fold_start a.c a.s.now (first a.c) 61 c.type_inv.s h (begun a.c h))
 
-pub loop-k-preserved : goal.loop-k-preserved
-loop-k-preserved c = let s = c.args.s.now in
-    let l = c.loop-k in
-    let p = 64 * l.k in
-    let e : 64 * (l.k + 1) ≡ p + 64 = omega arith in (
-      search rules,
-      search rules,
-      c.take.ensures.fact_1,
-      ap (λ (i : ℕ). register s c.take.new.w i (c.room-q.result + 64)) e
-          ∙ c.take.ensures.fact_2
-          ∙ ap (λ (y : ℕ). bit_steps (8 * (length s - p)) (bit_xor (mix folds y) (num (drop p s)))) c.room-q.ensures.fact_4
-          ∙ l.invariant.3,
-    )
+pub pay-requires-clause-fact_1 : goal.pay-requires-clause-fact_1
+pay-requires-clause-fact_1 c = filled_none 579
 
-pub pay-requires : goal.pay-requires
-pay-requires c = let l = c.loop-k in
-    record { fact_1 = filled_none 579; fact_2 = c.clear.ensures.fact_1; fact_3 = (search rules, search rules, search rules); fact_4 = small l.w l.q (bytes_of l.invariant.2) c.clear.ensures.fact_2 }
+pub pay-requires-clause-fact_4 : goal.pay-requires-clause-fact_4
+pay-requires-clause-fact_4 c = let l = c.loop-k in
+    small l.w l.q (bytes_of l.invariant.2) c.clear.ensures.fact_2
 
 pub returns : goal.returns
 returns c = let a = c.args in

@@ -30,15 +30,13 @@ loop-i-preserved c = let a = c.args in
           ∙ l.invariant.1,
     )
 
-pub returns : goal.returns
-returns c = let a = c.args in
+pub returns-clause-fact_2 : goal.returns-clause-fact_2
+returns-clause-fact_2 c = let a = c.args in
     let l = c.loop-i in
     let s = a.s.now in
     let w = a.w.now in
     let g : Filled 2944 w = search rules in
     let m : length w ≡ 2944 = g.size in
-    let e : l.i ≡ length s - a.p = omega arith in record {
-      fact_1 = l.invariant.0;
-      fact_2 = ap (field_at l.r 0) (sym e)
-          ∙ pay_end s w l.r a.p a.q l.i (bytes_of g) (search rules) (omega arith) (omega arith) (omega arith) l.invariant.1;
-    }
+    let e : l.i ≡ length s - a.p = omega arith in
+    ap (field_at l.r 0) (sym e)
+    ∙ pay_end s w l.r a.p a.q l.i (bytes_of g) (search rules) (omega arith) (omega arith) (omega arith) l.invariant.1

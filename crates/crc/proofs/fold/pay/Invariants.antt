@@ -1,5 +1,5 @@
 use mathlib.Core.Path.{◌≡◌}
-use Prim.Native.Nat.{◌+◌, ◌-◌, ◌*◌, ◌^◌, ◌≤◌}
+use Prim.Native.Nat.{◌+◌, ◌*◌, ◌^◌}
 use Rattle.format.specs.Bytes.{field_at}
 use Rattle.crc.specs.Window.{Filled}
 use Rattle.crc.proofs.Window.{Left}

@@ -1,4 +1,4 @@
-use Rattle.std.proofs.Common.{◌≡◌, ℕ, List, arith, sym, ap, ◌∙◌, drop}
+use Rattle.std.proofs.Common.{◌≡◌, ℕ, List, arith, sym, ap, ◌∙◌}
 use Rattle.format.specs.Bytes.{field_at}
 use Rattle.crc.proofs.Window.{moved}
 use Rattle.crc.proofs.fold.room.Goals as goal
