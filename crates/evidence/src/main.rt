@@ -15,81 +15,56 @@ const MARK: u32 = 0xa5a5a5a5;
 
 // No number past a listing of so many changes was changed.
 fn is_kept(out: &[u32], changes: usize) -> bool {
-    let mut i: usize = 0;
-    while i < out.len() {
-        if changes <= i / 5 {
-            if out[i] != MARK {
-                return false;
-            }
-        }
-        i += 1;
-    }
-    true
+    out.iter()
+        .skip(changes.saturating_mul(5))
+        .all(|n| *n == MARK)
 }
 
 // A listing into the first numbers of a buffer that holds marks.
-fn ask_marked(log: &[u8], out: &mut [u32], room: usize) {
+fn ask_marked(rt: &impl Print, log: &[u8], out: &mut [u32], room: usize) {
     if out.len() < room {
         return;
     }
-    let kept = match report::print_list(log, &mut out[..room]) {
-        Checked::Accepted(_, changes) => is_kept(out, changes),
-        Checked::Refused(_, _) => is_kept(out, 0),
+    let changes = match report::print_list(rt, log, &mut out[..room]) {
+        Checked::Accepted(_, changes) => changes,
+        Checked::Refused(_, _) => 0,
     };
-    if kept {
-        io::write_all(1, b"kept\n");
-    } else {
-        io::write_all(1, b"changed\n");
-    }
+    let kept = is_kept(out, changes);
+    let _ = rt.println(if kept { "kept" } else { "changed" });
 }
 
 // A listing into a buffer of so many numbers.
-fn ask_list(log: &[u8], room: usize) {
+fn ask_list(rt: &impl Print, log: &[u8], room: usize) {
     let mut out = [MARK; 4096];
-    io::write_all(1, b"list ");
-    io::print_decimal(1, room as u64);
-    io::write_all(1, b" ");
-    ask_marked(log, &mut out, room);
+    let _ = print!(rt; "list {room} ");
+    ask_marked(rt, log, &mut out, room);
 }
 
 // Whether change k, side and column was answered.
-fn ask_value(log: &[u8], k: usize, side: usize, column: usize) -> bool {
-    io::write_all(1, b"value ");
-    io::print_decimal(1, k as u64);
-    io::write_all(1, b" ");
-    io::print_decimal(1, side as u64);
-    io::write_all(1, b" ");
-    io::print_decimal(1, column as u64);
-    io::write_all(1, b" ");
-    match report::print_value(log, k, side, column) {
-        Valued::Refused(_, _) => false,
-        _ => true,
-    }
+fn ask_value(rt: &impl Print, log: &[u8], k: usize, side: usize, column: usize) -> bool {
+    let _ = print!(rt; "value {k} {side} {column} ");
+    !matches!(
+        report::print_value(rt, log, k, side, column),
+        Valued::Refused(_, _)
+    )
 }
 
 // The columns of a side, one more than a table can have.
-fn ask_side(log: &[u8], k: usize, side: usize) {
-    let mut column: usize = 0;
-    while column < 513 {
-        if !ask_value(log, k, side, column) {
+fn ask_side(rt: &impl Print, log: &[u8], k: usize, side: usize) {
+    for column in 0..513 {
+        if !ask_value(rt, log, k, side, column) {
             return;
         }
-        column += 1;
     }
 }
 
 // Whether change k was answered.
-fn ask_change(log: &[u8], k: usize) -> bool {
-    io::write_all(1, b"change ");
-    io::print_decimal(1, k as u64);
-    io::write_all(1, b" ");
-    let is_answered = match report::print_change(log, k) {
-        Changed::Refused(_, _) => false,
-        Changed::Change(_) => true,
-    };
-    ask_side(log, k, 0);
-    ask_side(log, k, 1);
-    ask_side(log, k, 2);
+fn ask_change(rt: &impl Print, log: &[u8], k: usize) -> bool {
+    let _ = print!(rt; "change {k} ");
+    let is_answered = !matches!(report::print_change(rt, log, k), Changed::Refused(_, _));
+    for side in 0..3 {
+        ask_side(rt, log, k, side);
+    }
     is_answered
 }
 
@@ -101,22 +76,20 @@ fn count_of(log: &[u8]) -> usize {
     }
 }
 
-fn ask_all(log: &[u8]) {
+fn ask_all(rt: &impl Print, log: &[u8]) {
     let count = count_of(log);
     if 65_536 < count {
         return;
     }
     if 0 < count {
-        ask_list(log, 5 * count - 1);
+        ask_list(rt, log, 5 * count - 1);
     }
-    ask_list(log, 5 * count);
-    ask_list(log, 5 * count + 3);
-    let mut k: usize = 0;
-    while k <= count {
-        if !ask_change(log, k) {
+    ask_list(rt, log, 5 * count);
+    ask_list(rt, log, 5 * count + 3);
+    for k in 0..=count {
+        if !ask_change(rt, log, k) {
             return;
         }
-        k += 1;
     }
 }
 
@@ -130,28 +103,29 @@ fn open_read(rt: &HostRuntime, path: &[u8]) -> Result<File, Error> {
 
 // Writes a line to standard error: the name, a colon and the error's text.
 fn fail(rt: &HostRuntime, path: &[u8], error: Error) {
-    io::write_all(2, path);
-    io::write_all(2, b": ");
-    let _ = rt.eprintln(error);
+    let stderr = rt.stderr();
+    let _ = stderr.write_all(path);
+    let _ = stderr.print(": ");
+    let _ = stderr.println(error);
 }
 
 // Asks of what an open file holds.
-fn print_opened(file: &File) {
+fn print_opened(rt: &impl Print, file: &File) {
     // one byte more than is read of a log, so that a longer one shows
     let mut input = [0u8; 65537];
     let n = io::read_full(file.as_raw_fd(), &mut input);
-    report::print_input(&input[..n]);
+    report::print_input(rt, &input[..n]);
     if n <= 32_768 {
-        ask_all(&input[..n]);
+        ask_all(rt, &input[..n]);
     }
 }
 
 fn print_file(rt: &HostRuntime, path: &[u8]) {
-    io::write_all(1, b"== ");
-    io::write_all(1, path);
-    io::write_all(1, b"\n");
+    let _ = rt.print("== ");
+    let _ = rt.write_all(path);
+    let _ = rt.print("\n");
     match open_read(rt, path) {
-        Ok(file) => print_opened(&file),
+        Ok(file) => print_opened(rt, &file),
         Err(error) => fail(rt, path, error),
     }
 }
@@ -175,9 +149,7 @@ fn arg_count(rt: &HostRuntime) -> usize {
 
 fn main(rt: HostRuntime) {
     let count = arg_count(&rt);
-    let mut i: usize = 1;
-    while i < count {
+    for i in 1..count {
         print_argument(&rt, i);
-        i += 1;
     }
 }

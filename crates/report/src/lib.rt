@@ -1,4 +1,4 @@
-// The lines that a program prints of a log. Each question is asked, its answer printed and handed back.
+// The lines that a program prints of a log. Each question is asked, its answer printed and handed back; what can't be written is left out.
 #![tactic(auto)]
 
 ghost use Rattle.std.specs.Prelude.{◌≡◌, leb, length};
@@ -10,207 +10,148 @@ ghost use Rattle.walk.specs.Listing.{listed_answer};
 
 use entry::{Changed, Valued};
 use events::Checked;
-use format::Entry;
-use value::{Date, Datetime, Time, Value};
+use std::fmt::{Display, Formatter};
+use std::{fmt, io};
+use value::Value;
 
-// A number and a space before it.
-fn print_number(n: u64) {
-    io::write_all(1, b" ");
-    io::print_decimal(1, n);
+fn print_refusal(rt: &impl Print, number: u8, place: usize) -> io::Result<()> {
+    println!(rt; "refused {number} at {place}")
 }
 
-fn print_signed(n: i64) {
-    if n < 0 {
-        io::write_all(1, b" -");
-        let less = -1 - n;
-        io::print_decimal(1, less as u64 + 1);
-    } else {
-        print_number(n as u64);
-    }
-}
-
-fn print_refusal(number: u8, place: usize) {
-    io::write_all(1, b"refused");
-    print_number(number as u64);
-    io::write_all(1, b" at");
-    print_number(place as u64);
-}
-
-fn print_checked(answer: Checked) {
+fn print_checked(rt: &impl Print, answer: Checked) -> io::Result<()> {
     match answer {
-        Checked::Accepted(events, changes) => {
-            io::write_all(1, b"accepted");
-            print_number(events as u64);
-            print_number(changes as u64);
-        }
-        Checked::Refused(number, place) => print_refusal(number, place),
+        Checked::Accepted(events, changes) => println!(rt; "accepted {events} {changes}"),
+        Checked::Refused(number, place) => print_refusal(rt, number, place),
     }
-    io::write_all(1, b"\n");
 }
 
 // The numbers of a listing, five to a line.
-fn print_lines(out: &[u32], changes: usize) {
-    let mut i: usize = 0;
-    while i < out.len() {
-        if changes <= i / 5 {
-            return;
-        }
-        io::print_decimal(1, out[i] as u64);
-        if i % 5 == 4 {
-            io::write_all(1, b"\n");
-        } else {
-            io::write_all(1, b" ");
-        }
-        i += 1;
+fn print_lines(rt: &impl Print, out: &[u32], changes: usize) -> io::Result<()> {
+    let (entries, _) = out.as_chunks::<5>();
+    for [kind, event, map, before, after] in entries.iter().take(changes) {
+        println!(rt; "{kind} {event} {map} {before} {after}")?;
     }
+    Ok(())
 }
 
 // Listing, into a lent buffer: its answer.
-pub fn print_list(log: &[u8], out: &mut [u32]) -> Checked
+pub fn print_list(rt: &impl Print, log: &[u8], out: &mut [u32]) -> Checked
     ensures answer { result ≡ listed_answer (list_of (length out.old) (judge log.now)) }
     ensures buffer { out.new ≡ written (list_of (length out.old) (judge log.now)) out.old }
 {
     let answer = binlog::list(log, out);
-    print_checked(answer);
+    let _ = print_checked(rt, answer);
     answer
 }
 
 // What the program prints of a log: the answer to Listing, with room enough for every log of its size, and the listing.
-fn print_log(log: &[u8]) {
+fn print_log(rt: &impl Print, log: &[u8]) {
     let mut out = [0u32; 327680];
-    let answer = print_list(log, &mut out);
-    match answer {
-        Checked::Accepted(_, changes) => print_lines(&out, changes),
-        Checked::Refused(_, _) => {}
+    if let Checked::Accepted(_, changes) = print_list(rt, log, &mut out) {
+        let _ = print_lines(rt, &out, changes);
     }
 }
 
 // Prints the answer to an input of up to 65,536 bytes, else only "too long", and says which.
-pub fn print_input(input: &[u8]) -> bool
+pub fn print_input(rt: &impl Print, input: &[u8]) -> bool
     ensures { result ≡ leb (length input.now) 65536 }
 {
     let fits = input.len() <= 65_536;
     if fits {
-        print_log(input);
+        print_log(rt, input);
     } else {
-        io::write_all(1, b"too long\n");
+        let _ = rt.println("too long");
     }
     fits
 }
 
-// The bytes of a part, in hexadecimal after an x.
-fn print_part(part: &[u8]) {
-    io::write_all(1, b" x");
-    let mut i: usize = 0;
-    while i < part.len() {
-        let b = part[i];
-        io::print_hex(1, wire::wide(b), 2);
-        i += 1;
+// A part of the log, in hexadecimal after an x.
+#[derive(Clone, Copy)]
+struct Hex<'a>(&'a [u8]);
+
+impl Display for Hex<'_> {
+    fn fmt<W: fmt::Write>(&self, f: &mut Formatter<W>) -> fmt::Result {
+        write!(f, "x")?;
+        for byte in self.0 {
+            write!(f, "{byte:02x}")?;
+        }
+        Ok(())
     }
 }
 
-fn print_entry(e: Entry) {
-    io::print_decimal(1, e.kind as u64);
-    print_number(e.event as u64);
-    print_number(e.map as u64);
-    print_number(e.before as u64);
-    print_number(e.after as u64);
-}
-
-fn print_changed(log: &[u8], k: usize, answer: Changed) {
+fn print_changed(rt: &impl Print, log: &[u8], k: usize, answer: Changed) -> io::Result<()> {
     match answer {
-        Changed::Refused(number, place) => print_refusal(number, place),
+        Changed::Refused(number, place) => print_refusal(rt, number, place),
         Changed::Change(c) => {
-            let entry = c.entry;
-            print_entry(entry);
-            print_number(c.table);
-            print_number(c.columns as u64);
-            print_part(binlog::database_name(log, k));
-            print_part(binlog::table_name(log, k));
+            let e = c.entry;
+            print!(rt;
+                "{} {} {} {} {} ",
+                e.kind, e.event, e.map, e.before, e.after
+            )?;
+            let database = Hex(binlog::database_name(log, k));
+            let table = Hex(binlog::table_name(log, k));
+            println!(rt; "{} {} {database} {table}", c.table, c.columns)
         }
     }
-    io::write_all(1, b"\n");
 }
 
 // Change k: its answer, and its names.
-pub fn print_change(log: &[u8], k: usize) -> Changed
+pub fn print_change(rt: &impl Print, log: &[u8], k: usize) -> Changed
     ensures { result ≡ changed_answer (change_of k (judge log.now)) }
 {
     let answer = binlog::change(log, k);
-    print_changed(log, k, answer);
+    let _ = print_changed(rt, log, k, answer);
     answer
 }
 
-fn print_date(d: Date) {
-    print_number(d.year);
-    print_number(d.month);
-    print_number(d.day);
+// A stored value, and its bytes where it is a text.
+#[derive(Clone, Copy)]
+struct Stored<'a> {
+    value: Value,
+    part: &'a [u8],
 }
 
-fn print_datetime(d: Datetime) {
-    let date = d.date;
-    print_date(date);
-    print_number(d.hour);
-    print_number(d.minute);
-    print_number(d.second);
-    print_number(d.micros);
-}
-
-fn print_time(t: Time) {
-    if t.negative {
-        io::write_all(1, b" -");
-    } else {
-        io::write_all(1, b" +");
-    }
-    print_number(t.hour);
-    print_number(t.minute);
-    print_number(t.second);
-    print_number(t.micros);
-}
-
-fn print_stored(v: Value, part: &[u8]) {
-    match v {
-        Value::Integer(n) => print_signed(n),
-        Value::Float(_, bits) => print_number(bits as u64),
-        Value::Double(_, bits) => print_number(bits),
-        Value::Date(d) => print_date(d),
-        Value::Year(y) => print_number(y),
-        Value::Timestamp(seconds, micros) => {
-            print_number(seconds);
-            print_number(micros);
-        }
-        Value::Datetime(d) => print_datetime(d),
-        Value::Time(t) => print_time(t),
-        Value::Text(place, size) => {
-            print_number(place as u64);
-            print_number(size as u64);
-            print_part(part);
+impl Display for Stored<'_> {
+    fn fmt<W: fmt::Write>(&self, f: &mut Formatter<W>) -> fmt::Result {
+        match self.value {
+            Value::Integer(n) => write!(f, "{n}"),
+            Value::Float(_, bits) => write!(f, "{bits}"),
+            Value::Double(_, bits) => write!(f, "{bits}"),
+            Value::Date(d) => write!(f, "{} {} {}", d.year, d.month, d.day),
+            Value::Year(y) => write!(f, "{y}"),
+            Value::Timestamp(seconds, micros) => write!(f, "{seconds} {micros}"),
+            Value::Datetime(x) => {
+                let d = x.date;
+                write!(f, "{} {} {} ", d.year, d.month, d.day)?;
+                write!(f, "{} {} {} {}", x.hour, x.minute, x.second, x.micros)
+            }
+            Value::Time(t) => {
+                let sign = if t.negative { '-' } else { '+' };
+                write!(
+                    f,
+                    "{sign} {} {} {} {}",
+                    t.hour, t.minute, t.second, t.micros
+                )
+            }
+            Value::Text(place, size) => write!(f, "{place} {size} {}", Hex(self.part)),
         }
     }
 }
 
-fn print_valued(answer: Valued, part: &[u8]) {
+fn print_valued(rt: &impl Print, answer: Valued, part: &[u8]) -> io::Result<()> {
     match answer {
-        Valued::Refused(number, place) => print_refusal(number, place),
-        Valued::Absent => {
-            io::write_all(1, b"absent");
-        }
-        Valued::Null => {
-            io::write_all(1, b"null");
-        }
-        Valued::Stored(code, v) => {
-            io::print_decimal(1, code as u64);
-            print_stored(v, part);
-        }
+        Valued::Refused(number, place) => print_refusal(rt, number, place),
+        Valued::Absent => rt.println("absent"),
+        Valued::Null => rt.println("null"),
+        Valued::Stored(code, value) => println!(rt; "{code} {}", Stored { value, part }),
     }
-    io::write_all(1, b"\n");
 }
 
 // Value of change k, side and column: its answer, and its text.
-pub fn print_value(log: &[u8], k: usize, side: usize, column: usize) -> Valued
+pub fn print_value(rt: &impl Print, log: &[u8], k: usize, side: usize, column: usize) -> Valued
     ensures { result ≡ valued_answer (text_of k side column (judge log.now)) (value_of k side column (judge log.now)) }
 {
     let answer = binlog::value(log, k, side, column);
-    print_valued(answer, binlog::text(log, k, side, column));
+    let _ = print_valued(rt, answer, binlog::text(log, k, side, column));
     answer
 }

@@ -17,7 +17,6 @@ use lib.Dec.{lit<}
 use lib.ListN.{length, get_or, take, drop, length-take, length-drop}
 use lib.Pow.{pow-add, pow_mono, pow_pos, high, low}
 use lib.Seq.{drop-cons, take-suc, get_or-drop}
-use Rattle.std.proofs.lemmas.List.{get_or-take}
 use Rattle.format.specs.Bytes.{num, big_from, num_big, field_at, big_at}
 use Rattle.format.specs.Values.{signed}
 
@@ -83,31 +82,6 @@ unfolding big_at num_big
 big_below_at s p k m h e =
     lt_of_lt_of_le (big_below_from 0 0 (take k (drop p s)) (bytes_take k (drop p s) (bytes_drop p s h)) (lit< tt))
     (pow_mono (omega (arith, length-take k (drop p s))))
-
-module _ (s : List ℕ) (at n i v : ℕ) (h : at + n ≤ length s) (e : v ≡ big_at s at i) where
-  -- the place of a byte in a part, and the byte there
-  within : i < length (take (at + n - at) (drop at s)) → (i < n) × (get_or (take (at + n - at) (drop at s)) i 0 ≡ get_or s (at + i) 0)
-  within l =
-      let z : i < at + n - at = omega (arith, length-take (at + n - at) (drop at s)) in
-      (omega arith, get_or-take (at + n - at) (drop at s) i 0 z ∙ get_or-drop at s i 0)
-
-  pub big_more : i < length (take (at + n - at) (drop at s)) → v * 256 + get_or (take (at + n - at) (drop at s)) i 0 ≡ big_at s at (i + 1)
-  big_more l =
-      let w = within l in
-      let t = big_turn s at i (omega (arith, w.0)) in
-      omega (arith, w.1, t, e)
-
-  pub big_room : Bytes s → n ≤ 8 → i < length (take (at + n - at) (drop at s)) → (v < 2 ^ 56) × (get_or (take (at + n - at) (drop at s)) i 0 < 256)
-  big_room b m l =
-      let w = within l in
-      let c = big_below_at s at i 7 b (omega (arith, w.0)) in
-      let g = (b (at + i)).fits in
-      (omega (arith, e, c), omega (arith, w.1, g))
-
-  pub big_end : n ≤ 8 → i ≤ length (take (at + n - at) (drop at s)) → length (take (at + n - at) (drop at s)) ≤ i → v ≡ big_at s at n
-  big_end m u l =
-      let z : i ≡ n = omega (arith, length-take (at + n - at) (drop at s), length-drop at s) in
-      e ∙ ap (big_at s at) z
 
 -- ---- numbers side by side
 

@@ -3,6 +3,5 @@ pub mod Bits
 pub mod PackedAt
 pub mod PackedIs
 pub mod Differences
-pub mod Below
 pub mod Same
 pub mod Swapped

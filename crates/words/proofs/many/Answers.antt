@@ -7,8 +7,7 @@ use lib.ListN.{length, drop}
 use lib.Dec.{lit≤}
 use native.Mathlib.Omega.{arith}
 use Prim.Native.Nat.{ℕ, ◌+◌, ◌-◌, ◌*◌}
-use mathlib.Core.Path.{◌≡◌, refl, sym, ap₂, ap, ◌∙◌}
-use borrow.Author.Rules.{rules}
+use mathlib.Core.Path.{◌≡◌, sym, ap₂, ap, ◌∙◌}
 use Rattle.words.proofs.many.Goals as goal
 
 pub loop-k-init : goal.loop-k-init

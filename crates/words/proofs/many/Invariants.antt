@@ -3,7 +3,7 @@ use Rattle.words.specs.Words.{on}
 use Rattle.format.specs.Crc.{bit_steps}
 use Rattle.format.specs.Bytes.{num}
 use lib.ListN.{length, drop}
-use Prim.Native.Nat.{◌+◌, ◌-◌, ◌*◌, ◌%◌, ◌≤◌}
+use Prim.Native.Nat.{◌+◌, ◌-◌, ◌*◌}
 use mathlib.Core.Path.{◌≡◌}
 use Rattle.words.proofs.many.Given as goal
 
