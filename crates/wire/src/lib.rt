@@ -1,7 +1,7 @@
 // Numbers, packed numbers and bits at places of a byte string.
 #![tactic(auto)]
 
-ghost use Rattle.std.specs.Prelude.{◌≡◌, cond, ◌+◌, ◌*◌, ◌/◌, ◌%◌, ◌^◌, ◌≤◌, ◌<◌, pos, ◌-ℤ◌, nat_abs, leb, length};
+ghost use Rattle.std.specs.Prelude.{◌≡◌, cond, ◌+◌, ◌*◌, ◌/◌, ◌%◌, ◌^◌, ◌≤◌, ◌<◌, leb, length};
 ghost use Rattle.format.specs.Bytes.{field_at, big_at};
 ghost use Rattle.format.specs.Columns.{bit, bits, count, bit_bytes};
 ghost use Rattle.format.specs.Values.{signed};
@@ -57,29 +57,12 @@ pub fn turned(x: u64) -> u64
     x.swap_bytes()
 }
 
-// The n bytes at one place are those at another: one by one.
-fn same_few(s: &[u8], a: usize, b: usize, n: usize) -> bool
-    requires { (a + n ≤ length s.now) × (b + n ≤ length s.now) }
-    ensures { SameIs s.now a b n result }
-{
-    s[a..a + n] == s[b..b + n]
-}
-
-// The same, eight at a time. The last eight are compared at once, some of them again.
+// The n bytes at one place are those at another.
 pub fn same_bytes(s: &[u8], a: usize, b: usize, n: usize) -> bool
     requires { (a + n ≤ length s.now) × (b + n ≤ length s.now) }
     ensures { SameIs s.now a b n result }
 {
-    if n < 8 {
-        return same_few(s, a, b, n);
-    }
-    let last = n - 8;
-    for i in 0..last.div_ceil(8) {
-        if word(s, a + 8 * i) != word(s, b + 8 * i) {
-            return false;
-        }
-    }
-    word(s, a + last) == word(s, b + last)
+    s[a..a + n] == s[b..b + n]
 }
 
 // The number in n bytes at a place, the highest first (01, Columns: 17, 18, 19 are big-endian).
@@ -207,20 +190,4 @@ pub fn field(x: u64, from: u64, n: u64) -> u64
     ensures { result ≡ x / 2 ^ from % 2 ^ n }
 {
     (x >> from) & ((1u64 << n) - 1)
-}
-
-// The signed difference of two numbers.
-pub fn apart(a: u64, b: u64) -> i64
-    requires { (a < 2 ^ 62) × (b < 2 ^ 62) }
-    ensures { result ≡ pos a -ℤ pos b }
-{
-    (a as i64) - (b as i64)
-}
-
-// The absolute value.
-pub fn size_of(d: i64) -> u64
-    requires { nat_abs d < 2 ^ 63 }
-    ensures { result ≡ nat_abs d }
-{
-    d.unsigned_abs()
 }
