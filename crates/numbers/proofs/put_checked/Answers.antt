@@ -1,8 +1,10 @@
+use mathlib.Core.Path.{sym, ap, ◌∙◌}
+use Rattle.format.specs.Refusals.{placed}
 use Rattle.numbers.proofs.Told.{checked_told}
 use Rattle.numbers.proofs.put_checked.Goals as goal
 
-pub returns-in-Refused : goal.returns-in-Refused
-returns-in-Refused c = checked_told _ _ c.in-Refused.is
+pub returns-in-Err : goal.returns-in-Err
+returns-in-Err c = λ y i. let t = checked_told _ y (sym (ap placed c.in-Err.is) ∙ i) in (c.from.ensures ∙ c.number.ensures ∙ t.0, t.1, t.2, t.3)
 
-pub returns-in-Accepted : goal.returns-in-Accepted
-returns-in-Accepted c = checked_told _ _ c.in-Accepted.is
+pub returns-in-Ok : goal.returns-in-Ok
+returns-in-Ok c = λ y i. checked_told _ y (sym (ap placed c.in-Ok.is) ∙ i)
