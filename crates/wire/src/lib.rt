@@ -26,13 +26,6 @@ pub fn number(s: &[u8], at: usize, k: usize) -> u64
     v
 }
 
-// Eight bytes as a number, the first the lowest, in a form that a compiler reads at once.
-pub fn eight(a: u8, b: u8, c: u8, d: u8, e: u8, f: u8, g: u8, h: u8) -> u64
-    ensures { result ≡ ((((((h * 256 + g) * 256 + f) * 256 + e) * 256 + d) * 256 + c) * 256 + b) * 256 + a }
-{
-    u64::from_le_bytes([a, b, c, d, e, f, g, h])
-}
-
 // The eight bytes from at.
 pub fn word(s: &[u8], at: usize) -> u64
     requires { at + 8 ≤ length s.now }
@@ -129,13 +122,6 @@ pub fn packed(s: &[u8], at: usize) -> Option<PackedNumber>
             end: next,
         }),
     }
-}
-
-// A byte as a number.
-pub fn wide(x: u8) -> u64
-    ensures { result ≡ x }
-{
-    u64::from(x)
 }
 
 // Bit i of a run of bytes (01, Rows events: bits run from each byte's lowest).
