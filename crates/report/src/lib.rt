@@ -140,7 +140,7 @@ impl Display for Stored<'_> {
                     t.hour, t.minute, t.second, t.micros
                 )
             }
-            Value::Text(place, size) => write!(f, "{place} {size} {}", Hex(self.part)),
+            Value::Text(p) => write!(f, "{} {} {}", p.place, p.size, Hex(self.part)),
         }
     }
 }
