@@ -2,8 +2,6 @@
 // isn't long every answer of Listing, Change and Value, up to the first that is refused.
 #![tactic(auto)]
 
-use entry::{Changed, Valued};
-use events::Checked;
 use std::env::FillError;
 use std::fs::File;
 use std::io::{Error, ErrorKind};
@@ -25,10 +23,8 @@ fn ask_marked(rt: &impl Print, log: &[u8], out: &mut [u32], room: usize) {
     if out.len() < room {
         return;
     }
-    let changes = match report::print_list(rt, log, &mut out[..room]) {
-        Checked::Accepted(_, changes) => changes,
-        Checked::Refused(_, _) => 0,
-    };
+    let answer = report::print_list(rt, log, &mut out[..room]);
+    let changes = answer.map_or(0, |counts| counts.changes);
     let kept = is_kept(out, changes);
     let _ = rt.println(if kept { "kept" } else { "changed" });
 }
@@ -43,10 +39,7 @@ fn ask_list(rt: &impl Print, log: &[u8], room: usize) {
 // Whether change k, side and column was answered.
 fn ask_value(rt: &impl Print, log: &[u8], k: usize, side: usize, column: usize) -> bool {
     let _ = print!(rt; "value {k} {side} {column} ");
-    !matches!(
-        report::print_value(rt, log, k, side, column),
-        Valued::Refused(_, _)
-    )
+    report::print_value(rt, log, k, side, column).is_ok()
 }
 
 // The columns of a side, one more than a table can have.
@@ -61,7 +54,7 @@ fn ask_side(rt: &impl Print, log: &[u8], k: usize, side: usize) {
 // Whether change k was answered.
 fn ask_change(rt: &impl Print, log: &[u8], k: usize) -> bool {
     let _ = print!(rt; "change {k} ");
-    let is_answered = !matches!(report::print_change(rt, log, k), Changed::Refused(_, _));
+    let is_answered = report::print_change(rt, log, k).is_ok();
     for side in 0..3 {
         ask_side(rt, log, k, side);
     }
@@ -70,10 +63,7 @@ fn ask_change(rt: &impl Print, log: &[u8], k: usize) -> bool {
 
 // How many changes a log has, 0 where it is refused.
 fn count_of(log: &[u8]) -> usize {
-    match binlog::check(log) {
-        Checked::Accepted(_, changes) => changes,
-        Checked::Refused(_, _) => 0,
-    }
+    binlog::check(log).map_or(0, |counts| counts.changes)
 }
 
 fn ask_all(rt: &impl Print, log: &[u8]) {

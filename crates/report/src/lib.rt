@@ -2,26 +2,28 @@
 #![tactic(auto)]
 
 ghost use Rattle.std.specs.Prelude.{◌≡◌, leb, length};
+ghost use Rattle.format.specs.Refusals.{placed};
 ghost use Rattle.format.specs.Walk.{judge};
 ghost use Rattle.format.specs.Answers.{list_of, written, change_of, value_of};
 ghost use Rattle.format.specs.Parts.{text_of};
 ghost use Rattle.entry.specs.Answer.{changed_answer, valued_answer};
 ghost use Rattle.walk.specs.Listing.{listed_answer};
 
-use entry::{Changed, Valued};
-use events::Checked;
+use entry::{Cell, Change};
+use events::Counts;
+use format::Fault;
 use std::fmt::{Display, Formatter};
 use std::{fmt, io};
 use value::Value;
 
-fn print_refusal(rt: &impl Print, number: u8, place: usize) -> io::Result<()> {
-    println!(rt; "refused {number} at {place}")
+fn print_refusal(rt: &impl Print, fault: Fault) -> io::Result<()> {
+    println!(rt; "refused {} at {}", fault.refusal.number(), fault.place)
 }
 
-fn print_checked(rt: &impl Print, answer: Checked) -> io::Result<()> {
+fn print_checked(rt: &impl Print, answer: Result<Counts, Fault>) -> io::Result<()> {
     match answer {
-        Checked::Accepted(events, changes) => println!(rt; "accepted {events} {changes}"),
-        Checked::Refused(number, place) => print_refusal(rt, number, place),
+        Ok(counts) => println!(rt; "accepted {} {}", counts.events, counts.changes),
+        Err(fault) => print_refusal(rt, fault),
     }
 }
 
@@ -35,8 +37,8 @@ fn print_lines(rt: &impl Print, out: &[u32], changes: usize) -> io::Result<()> {
 }
 
 // Listing, into a lent buffer: its answer.
-pub fn print_list(rt: &impl Print, log: &[u8], out: &mut [u32]) -> Checked
-    ensures answer { result ≡ listed_answer (list_of (length out.old) (judge log.now)) }
+pub fn print_list(rt: &impl Print, log: &[u8], out: &mut [u32]) -> Result<Counts, Fault>
+    ensures answer { placed result ≡ listed_answer (list_of (length out.old) (judge log.now)) }
     ensures buffer { out.new ≡ written (list_of (length out.old) (judge log.now)) out.old }
 {
     let answer = binlog::list(log, out);
@@ -47,8 +49,8 @@ pub fn print_list(rt: &impl Print, log: &[u8], out: &mut [u32]) -> Checked
 // What the program prints of a log: the answer to Listing, with room enough for every log of its size, and the listing.
 fn print_log(rt: &impl Print, log: &[u8]) {
     let mut out = [0u32; 327680];
-    if let Checked::Accepted(_, changes) = print_list(rt, log, &mut out) {
-        let _ = print_lines(rt, &out, changes);
+    if let Ok(counts) = print_list(rt, log, &mut out) {
+        let _ = print_lines(rt, &out, counts.changes);
     }
 }
 
@@ -79,10 +81,14 @@ impl Display for Hex<'_> {
     }
 }
 
-fn print_changed(rt: &impl Print, log: &[u8], k: usize, answer: Changed) -> io::Result<()> {
+fn print_changed(
+    rt: &impl Print,
+    log: &[u8],
+    k: usize,
+    answer: Result<Change, Fault>,
+) -> io::Result<()> {
     match answer {
-        Changed::Refused(number, place) => print_refusal(rt, number, place),
-        Changed::Change(c) => {
+        Ok(c) => {
             let e = c.entry;
             print!(rt;
                 "{} {} {} {} {} ",
@@ -92,12 +98,13 @@ fn print_changed(rt: &impl Print, log: &[u8], k: usize, answer: Changed) -> io::
             let table = Hex(binlog::table_name(log, k));
             println!(rt; "{} {} {database} {table}", c.table, c.columns)
         }
+        Err(fault) => print_refusal(rt, fault),
     }
 }
 
 // Change k: its answer, and its names.
-pub fn print_change(rt: &impl Print, log: &[u8], k: usize) -> Changed
-    ensures { result ≡ changed_answer (change_of k (judge log.now)) }
+pub fn print_change(rt: &impl Print, log: &[u8], k: usize) -> Result<Change, Fault>
+    ensures { placed result ≡ changed_answer (change_of k (judge log.now)) }
 {
     let answer = binlog::change(log, k);
     let _ = print_changed(rt, log, k, answer);
@@ -138,18 +145,24 @@ impl Display for Stored<'_> {
     }
 }
 
-fn print_valued(rt: &impl Print, answer: Valued, part: &[u8]) -> io::Result<()> {
+fn print_valued(rt: &impl Print, answer: Result<Cell, Fault>, part: &[u8]) -> io::Result<()> {
     match answer {
-        Valued::Refused(number, place) => print_refusal(rt, number, place),
-        Valued::Absent => rt.println("absent"),
-        Valued::Null => rt.println("null"),
-        Valued::Stored(code, value) => println!(rt; "{code} {}", Stored { value, part }),
+        Ok(Cell::Absent) => rt.println("absent"),
+        Ok(Cell::Null) => rt.println("null"),
+        Ok(Cell::Stored(code, value)) => println!(rt; "{code} {}", Stored { value, part }),
+        Err(fault) => print_refusal(rt, fault),
     }
 }
 
 // Value of change k, side and column: its answer, and its text.
-pub fn print_value(rt: &impl Print, log: &[u8], k: usize, side: usize, column: usize) -> Valued
-    ensures { result ≡ valued_answer (text_of k side column (judge log.now)) (value_of k side column (judge log.now)) }
+pub fn print_value(
+    rt: &impl Print,
+    log: &[u8],
+    k: usize,
+    side: usize,
+    column: usize,
+) -> Result<Cell, Fault>
+    ensures { placed result ≡ valued_answer (text_of k side column (judge log.now)) (value_of k side column (judge log.now)) }
 {
     let answer = binlog::value(log, k, side, column);
     let _ = print_valued(rt, answer, binlog::text(log, k, side, column));

@@ -13,7 +13,6 @@ ghost use Rattle.listed.specs.Values.{listing_cells};
 ghost use Rattle.cells.specs.Cells.{leading, after};
 ghost use Rattle.numbers.specs.Answer.{checked_number, checked_place, checked_events, checked_changes, counted, changed_number, changed_place, entry_after, table_after, columns_after, valued_number, valued_place, cell_after, entry_in_numbers};
 
-use entry::Changed;
 use numbers::{entry_in, place_of, put_cell, put_checked, put_entry, put_part, put_table};
 
 // Check: 0 for a log that is accepted, with how many events and changes it has, the place 0; else the refusal's number, its place, and counts of 0.
@@ -68,11 +67,11 @@ pub extern "C" fn tegmeadow_change(
     ensures columns { columns.new ≡ columns_after columns.old (change_of k (judge log.now)) }
 {
     match binlog::change(log, k) {
-        Changed::Refused(n, p) => {
-            *place = p;
-            n as u32
+        Err(f) => {
+            *place = f.place;
+            u32::from(f.refusal.number())
         }
-        Changed::Change(x) => {
+        Ok(x) => {
             *place = 0;
             put_entry(entry, x.entry);
             put_table(x, table, columns);
@@ -153,8 +152,8 @@ pub extern "C" fn tegmeadow_change_at(
     ensures columns { columns.new ≡ columns_after columns.old (change_at_entry log.now (entry_in_numbers entry.now)) }
 {
     match entry::change_at(log, entry_in(entry)) {
-        Changed::Refused(n, _) => n as u32,
-        Changed::Change(x) => {
+        Err(f) => u32::from(f.refusal.number()),
+        Ok(x) => {
             put_table(x, table, columns);
             0
         }
