@@ -48,6 +48,7 @@ pub fn clear(w: &mut [u8; 2944], q: usize)
 }
 
 // The bytes from p, with all that falls on them, where nothing is in the window after the 515 bytes from q.
+// kept: no plainer as one function with `take`: they share a formula of one line, and one writes into the buffer that it reads.
 pub fn pay(r: &mut [u8; 579], w: &[u8; 2944], q: usize, s: &[u8], p: usize)
     requires fact_1 { Filled 579 r.old }
     requires fact_2 { Filled 2944 w.now }

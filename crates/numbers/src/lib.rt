@@ -13,6 +13,7 @@ use events::Counts;
 use format::{Entry, Fault, Part};
 
 // An answer of Check in numbers.
+// kept: 0 for an answer, or the refusal's number: the C interface.
 pub fn put_checked(
     x: Result<Counts, Fault>,
     place: &mut usize,

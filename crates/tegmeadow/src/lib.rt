@@ -16,6 +16,7 @@ ghost use Rattle.numbers.specs.Answer.{checked_number, checked_place, checked_ev
 use numbers::{entry_in, place_of, put_cell, put_checked, put_entry, put_part, put_table};
 
 // Check: 0 for a log that is accepted, with how many events and changes it has, the place 0; else the refusal's number, its place, and counts of 0.
+// kept: 0 for an answer, or the refusal's number, here and below: the C interface.
 #[unsafe(no_mangle)]
 pub extern "C" fn tegmeadow_check(
     log: &[u8],

@@ -59,6 +59,7 @@ pub fn same_bytes(s: &[u8], a: usize, b: usize, n: usize) -> bool
 }
 
 // The number in n bytes at a place, the highest first (01, Columns: 17, 18, 19 are big-endian).
+// kept: no plainer as one function with `number`: which end is first would be asked at each byte.
 pub fn big(s: &[u8], at: usize, n: usize) -> u64
     requires fact_1 { at + n ≤ length s.now }
     requires fact_2 { n ≤ 8 }
@@ -158,6 +159,7 @@ pub fn count_bits(s: &[u8], n: usize) -> usize
 }
 
 // One of the first n bits is set.
+// kept: no plainer by count_bits: it stops at the first set bit.
 pub fn any_bit(s: &[u8], n: usize) -> bool
     requires { (n ≤ 512) × (bit_bytes n ≤ length s.now) }
     ensures { result ≡ leb 1 (count (bits n s.now)) }
