@@ -23,7 +23,7 @@ fn ask_marked(rt: &impl Print, log: &[u8], out: &mut [u32], room: usize) {
     if out.len() < room {
         return;
     }
-    let answer = report::print_list(rt, log, &mut out[..room]);
+    let answer = report::print_list(log, &mut out[..room]);
     let changes = answer.map_or(0, |counts| counts.changes);
     let kept = is_kept(out, changes);
     let _ = rt.println(if kept { "kept" } else { "changed" });
@@ -39,7 +39,7 @@ fn ask_list(rt: &impl Print, log: &[u8], room: usize) {
 // Whether change k, side and column was answered.
 fn ask_value(rt: &impl Print, log: &[u8], k: usize, side: usize, column: usize) -> bool {
     let _ = print!(rt; "value {k} {side} {column} ");
-    report::print_value(rt, log, k, side, column).is_ok()
+    report::print_value(log, k, side, column).is_ok()
 }
 
 // The columns of a side, one more than a table can have.
@@ -54,7 +54,7 @@ fn ask_side(rt: &impl Print, log: &[u8], k: usize, side: usize) {
 // Whether change k was answered.
 fn ask_change(rt: &impl Print, log: &[u8], k: usize) -> bool {
     let _ = print!(rt; "change {k} ");
-    let is_answered = report::print_change(rt, log, k).is_ok();
+    let is_answered = report::print_change(log, k).is_ok();
     for side in 0..3 {
         ask_side(rt, log, k, side);
     }
@@ -104,7 +104,7 @@ fn print_opened(rt: &impl Print, file: &File) {
     // one byte more than is read of a log, so that a longer one shows
     let mut input = [0u8; 65537];
     let n = io::read_full(file.as_raw_fd(), &mut input);
-    report::print_input(rt, &input[..n]);
+    report::print_input(&input[..n]);
     if n <= 32_768 {
         ask_all(rt, &input[..n]);
     }

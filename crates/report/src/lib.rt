@@ -12,15 +12,18 @@ ghost use Rattle.walk.specs.Listing.{listed_answer};
 use entry::{Cell, Change};
 use events::Counts;
 use format::Fault;
+use output::Output;
+use std::fmt;
 use std::fmt::{Display, Formatter};
-use std::{fmt, io};
 use value::Value;
 
-fn print_refusal(rt: &impl Print, fault: Fault) -> io::Result<()> {
+mod output;
+
+fn print_refusal(rt: &impl Print, fault: Fault) -> std::io::Result<()> {
     println!(rt; "refused {} at {}", fault.refusal.number(), fault.place)
 }
 
-fn print_checked(rt: &impl Print, answer: Result<Counts, Fault>) -> io::Result<()> {
+fn print_checked(rt: &impl Print, answer: Result<Counts, Fault>) -> std::io::Result<()> {
     match answer {
         Ok(counts) => println!(rt; "accepted {} {}", counts.events, counts.changes),
         Err(fault) => print_refusal(rt, fault),
@@ -28,7 +31,7 @@ fn print_checked(rt: &impl Print, answer: Result<Counts, Fault>) -> io::Result<(
 }
 
 // The numbers of a listing, five to a line.
-fn print_lines(rt: &impl Print, out: &[u32], changes: usize) -> io::Result<()> {
+fn print_lines(rt: &impl Print, out: &[u32], changes: usize) -> std::io::Result<()> {
     let (entries, _) = out.as_chunks::<5>();
     for [kind, event, map, before, after] in entries.iter().take(changes) {
         println!(rt; "{kind} {event} {map} {before} {after}")?;
@@ -37,32 +40,32 @@ fn print_lines(rt: &impl Print, out: &[u32], changes: usize) -> io::Result<()> {
 }
 
 // Listing, into a lent buffer: its answer.
-pub fn print_list(rt: &impl Print, log: &[u8], out: &mut [u32]) -> Result<Counts, Fault>
+pub fn print_list(log: &[u8], out: &mut [u32]) -> Result<Counts, Fault>
     ensures answer { placed result ≡ listed_answer (list_of (length out.old) (judge log.now)) }
     ensures buffer { out.new ≡ written (list_of (length out.old) (judge log.now)) out.old }
 {
     let answer = binlog::list(log, out);
-    let _ = print_checked(rt, answer);
+    let _ = print_checked(&Output, answer);
     answer
 }
 
 // What the program prints of a log: the answer to Listing, with room enough for every log of its size, and the listing.
-fn print_log(rt: &impl Print, log: &[u8]) {
+fn print_log(log: &[u8]) {
     let mut out = [0u32; 327680];
-    if let Ok(counts) = print_list(rt, log, &mut out) {
-        let _ = print_lines(rt, &out, counts.changes);
+    if let Ok(counts) = print_list(log, &mut out) {
+        let _ = print_lines(&Output, &out, counts.changes);
     }
 }
 
 // Prints the answer to an input of up to 65,536 bytes, else only "too long", and says which.
-pub fn print_input(rt: &impl Print, input: &[u8]) -> bool
+pub fn print_input(input: &[u8]) -> bool
     ensures { result ≡ leb (length input.now) 65536 }
 {
     let fits = input.len() <= 65_536;
     if fits {
-        print_log(rt, input);
+        print_log(input);
     } else {
-        let _ = rt.println("too long");
+        let _ = Output.println("too long");
     }
     fits
 }
@@ -86,7 +89,7 @@ fn print_changed(
     log: &[u8],
     k: usize,
     answer: Result<Change, Fault>,
-) -> io::Result<()> {
+) -> std::io::Result<()> {
     match answer {
         Ok(c) => {
             let e = c.entry;
@@ -103,11 +106,11 @@ fn print_changed(
 }
 
 // Change k: its answer, and its names.
-pub fn print_change(rt: &impl Print, log: &[u8], k: usize) -> Result<Change, Fault>
+pub fn print_change(log: &[u8], k: usize) -> Result<Change, Fault>
     ensures { placed result ≡ changed_answer (change_of k (judge log.now)) }
 {
     let answer = binlog::change(log, k);
-    let _ = print_changed(rt, log, k, answer);
+    let _ = print_changed(&Output, log, k, answer);
     answer
 }
 
@@ -145,7 +148,7 @@ impl Display for Stored<'_> {
     }
 }
 
-fn print_valued(rt: &impl Print, answer: Result<Cell, Fault>, part: &[u8]) -> io::Result<()> {
+fn print_valued(rt: &impl Print, answer: Result<Cell, Fault>, part: &[u8]) -> std::io::Result<()> {
     match answer {
         Ok(Cell::Absent) => rt.println("absent"),
         Ok(Cell::Null) => rt.println("null"),
@@ -155,16 +158,10 @@ fn print_valued(rt: &impl Print, answer: Result<Cell, Fault>, part: &[u8]) -> io
 }
 
 // Value of change k, side and column: its answer, and its text.
-pub fn print_value(
-    rt: &impl Print,
-    log: &[u8],
-    k: usize,
-    side: usize,
-    column: usize,
-) -> Result<Cell, Fault>
+pub fn print_value(log: &[u8], k: usize, side: usize, column: usize) -> Result<Cell, Fault>
     ensures { placed result ≡ valued_answer (text_of k side column (judge log.now)) (value_of k side column (judge log.now)) }
 {
     let answer = binlog::value(log, k, side, column);
-    let _ = print_valued(rt, answer, binlog::text(log, k, side, column));
+    let _ = print_valued(&Output, answer, binlog::text(log, k, side, column));
     answer
 }
