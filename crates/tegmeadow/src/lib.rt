@@ -13,7 +13,7 @@ ghost use Rattle.listed.specs.Values.{listing_cells};
 ghost use Rattle.cells.specs.Cells.{leading, after};
 ghost use Rattle.numbers.specs.Answer.{checked_number, checked_place, checked_events, checked_changes, counted, changed_number, changed_place, entry_after, table_after, columns_after, valued_number, valued_place, cell_after, entry_in_numbers};
 
-use numbers::{entry_in, place_of, put_cell, put_checked, put_entry, put_part, put_table};
+use numbers::{by_number, entry_in, place_of, put_cell, put_checked, put_entry, put_part, put_table};
 
 // Check: 0 for a log that is accepted, with how many events and changes it has, the place 0; else the refusal's number, its place, and counts of 0.
 // kept: 0 for an answer, or the refusal's number, here and below: the C interface.
@@ -29,7 +29,7 @@ pub extern "C" fn tegmeadow_check(
     ensures events { events.new ≡ checked_events (check_of (judge log.now)) }
     ensures changes { changes.new ≡ checked_changes (check_of (judge log.now)) }
 {
-    put_checked(binlog::check(log), place, events, changes)
+    put_checked(by_number(binlog::check(log)), place, events, changes)
 }
 
 // Listing: answers as Check does; where the log is accepted and the buffer is long enough, it holds five numbers for each change, and what is past
@@ -48,7 +48,7 @@ pub extern "C" fn tegmeadow_list(
     ensures events { events.new ≡ checked_events (counted (list_of (size out.old) (judge log.now))) }
     ensures changes { changes.new ≡ checked_changes (counted (list_of (size out.old) (judge log.now))) }
 {
-    put_checked(binlog::list(log, out), place, events, changes)
+    put_checked(by_number(binlog::list(log, out)), place, events, changes)
 }
 
 // Change k, from 0: its listing entry, its table's id and its column count, and the place 0. Refused, only the place is written.
@@ -119,7 +119,7 @@ pub extern "C" fn tegmeadow_value(
     ensures place { place.new ≡ valued_place (value_of k side column (judge log.now)) }
     ensures cell { cell.new ≡ cell_after cell.old (text_of k side column (judge log.now)) (value_of k side column (judge log.now)) }
 {
-    let x = binlog::value(log, k, side, column);
+    let x = by_number(binlog::value(log, k, side, column));
     *place = place_of(x);
     put_cell(x, cell)
 }
@@ -201,7 +201,8 @@ pub extern "C" fn tegmeadow_value_at(
     ensures answer { result ≡ valued_number (value_at log.now (entry_in_numbers entry.now) side column) }
     ensures cell { cell.new ≡ cell_after cell.old (text_at_entry log.now (entry_in_numbers entry.now) side column) (value_at log.now (entry_in_numbers entry.now) side column) }
 {
-    put_cell(entry::value_at(log, entry_in(entry), side, column), cell)
+    let x = entry::value_at(log, entry_in(entry), side, column);
+    put_cell(by_number(x), cell)
 }
 
 // Where the text or blob of that value stands.
