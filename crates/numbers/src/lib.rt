@@ -64,6 +64,7 @@ pub fn put_checked(
 }
 
 // The five numbers of a listing entry.
+#[tactic(auto, unfolding(format::specs::Answers::fields))]
 pub fn put_entry(out: &mut [u32; 5], e: Entry)
     ensures { out.new ≡ fields e }
 {
