@@ -13,7 +13,9 @@ ghost use Rattle.listed.specs.Values.{listing_cells};
 ghost use Rattle.cells.specs.Cells.{leading, after};
 ghost use Rattle.numbers.specs.Answer.{checked_number, checked_place, checked_events, checked_changes, counted, changed_number, changed_place, entry_after, table_after, columns_after, valued_number, valued_place, cell_after, entry_in_numbers};
 
-use numbers::{by_number, entry_in, place_of, put_cell, put_checked, put_entry, put_part, put_table};
+use numbers::{
+    by_number, entry_in, place_of, put_cell, put_checked, put_entry, put_part, put_table,
+};
 
 // Check: 0 for a log that is accepted, with how many events and changes it has, the place 0; else the refusal's number, its place, and counts of 0.
 // kept: 0 for an answer, or the refusal's number, here and below: the C interface.
