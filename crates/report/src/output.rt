@@ -8,6 +8,7 @@ const CAPACITY: usize = 1024;
 pub struct Output;
 
 // Bytes on their way out, so that a short line takes one call.
+// kept: a buffer with its length: no heap.
 #[derive(Drop)]
 struct Buffer {
     bytes: [u8; CAPACITY],
